@@ -4,7 +4,7 @@
     tests/calls.py WORKSPACE
 
 The calls are listed from the signatures in the sources of the crates that `winnow` stands on, and of the formats: all whose answer may hold an `AllocError`, but
-for those of private types, those whose contracts say that none comes, and parsers that are refused memory only where a part of theirs is. `refusal_calls` of the
+for those of private types and traits, those whose contracts say that none comes, and parsers that are refused memory only where a part of theirs is. `refusal_calls` of the
 workspace has a row for each, which is named as the call is, and makes it on no items, on a few and on thousands.
 
 It also fails where a source of the library makes an `AllocError` itself. Only the allocator does, but for the places in `MADE`.
@@ -17,7 +17,7 @@ import sys
 TOP = os.path.dirname(os.path.dirname(os.path.realpath(__file__)))
 
 # The types whose values may say that memory was refused.
-REFUSING = ("AllocError", "RecordError", "ReadError", "ModalResult", "WholeResult", "Unread", "Unwritten", "EventError")
+REFUSING = ("AllocError", "RecordError", "RowError", "ReadError", "ModalResult", "WholeResult", "Unread", "Unwritten", "EventError")
 
 # The sources that make an `AllocError`: of more separators than a `usize` counts, and of the want of memory that `hex` and a record of an error tell of.
 MADE = {"winnow_combinator/src/parsers/separated.rt", "winnow_resume/src/following.rt", "winnow_script_text/src/literals.rt"}
@@ -135,7 +135,7 @@ def calls_of(crate, is_format):
     """Yields the calls of a crate that may be refused memory, as rows are named."""
     texts = [text for _, text in sources(crate)]
     exported = set(re.findall(r"\w+", " ".join(re.findall(r"^pub use ([^;]*);", "\n".join(texts), flags=re.M | re.S))))
-    private = set(re.findall(r"^(?:pub\(crate\) )?(?:struct|enum) (\w+)", "\n".join(texts), flags=re.M))
+    private = set(re.findall(r"^(?:pub\(crate\) )?(?:struct|enum|trait) (\w+)", "\n".join(texts), flags=re.M))
     for block in (block for text in texts for block in re.split(r"\n\n(?=\S)", text)):
         of = owner(block)
         members = re.split(r"\n\n(?=    \S)", block) if of else [block]
@@ -146,7 +146,7 @@ def calls_of(crate, is_format):
             is_public, name, _ = found
             is_public = is_public or re.search(r"^pub trait ", block, flags=re.M)
             if of and of.startswith("<"):
-                if re.match(r"<(\w*)", of).group(1) not in private and not is_never_refused(name, block, is_format):
+                if private.isdisjoint(re.match(r"<(\w*).* as (\w+)", of).groups()) and not is_never_refused(name, block, is_format):
                     yield f"{of}::{name}"
             elif is_public and re.match(r"\w+", of or name).group() in exported:
                 if (of and name != "into_mode") or not is_never_refused(name, block, is_format):

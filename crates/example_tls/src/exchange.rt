@@ -36,10 +36,10 @@ pub fn read_record<I: StreamIsPartial<Token = u8>, E: ParserError<I>>(
 }
 
 /// Appends the bytes of a record.
-pub fn write_record(record: &TlsRecord, bytes: &mut Vec<u8>) -> Result<(), Unwritten>
-    ensures { Writes SpellsRecord record.now bytes.old.items result bytes.new.items }
+pub fn write_record(value: &TlsRecord, bytes: &mut Vec<u8>) -> Result<(), Unwritten>
+    ensures { Writes SpellsRecord value.now bytes.old.items result bytes.new.items }
 {
-    tls_record().write(record, bytes)
+    tls_record().write(value, bytes)
 }
 
 /// Reads extensions.

@@ -23,8 +23,8 @@ use winnow_stream::{Location, Stream, StreamIsPartial};
 use winnow_views::TokenSlice;
 use winnow_wrap::LocatingSlice;
 
-/// The greatest number of layers: one more than the parentheses around a part of a formula, and
-/// likewise of the operators one inside the other.
+/// The greatest number of layers. A part of a formula is within at most one parenthesis fewer, and
+/// operators are nested in each other at most one level fewer.
 pub const LAYERS: usize = 20;
 
 /// What is wrong with a formula.

@@ -10,3 +10,10 @@ pub mod TableLemmas
 pub mod ReaderLemmas
 pub mod ScanLemmas
 pub mod OpenLemmas
+pub mod FillByteLemmas
+pub mod FillQuoteLemmas
+pub mod FillFieldLemmas
+pub mod FillGoneLemmas
+pub mod FillLemmas
+pub mod FillStepLemmas
+pub mod RowReaderLemmas

@@ -10,3 +10,6 @@ pub mod Widths
 pub mod Reading
 pub mod Marks
 pub mod Scan
+pub mod FillingFields
+pub mod Filling
+pub mod RowReader

@@ -34,7 +34,7 @@ pub(crate) enum Next {
 pub(crate) fn is_blank(byte: u8) -> bool
     ensures { result ≡ is_blank byte }
 {
-    matches!(byte, b' ' | b'\t' | b'\n' | b'\r')
+    byte <= b' ' && matches!(byte, b' ' | b'\t' | b'\n' | b'\r')
 }
 
 /// Returns the number of blanks with which the bytes begin.
@@ -52,6 +52,7 @@ pub fn blank_count(bytes: &[u8]) -> usize
 }
 
 // Returns whether the bytes begin with a word.
+#[inline(always)]
 pub(crate) fn word_at(bytes: &[u8], partial: bool, word: &[u8]) -> Found<()>
     ensures found { IsFound (WordAhead word.now) partial bytes.now result }
     ensures place { IsPlaced (λ whole rest. rest ≡ whole) bytes.now result }

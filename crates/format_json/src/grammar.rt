@@ -19,6 +19,9 @@ use crate::scalars::{scalar_at, string_at};
 use std::alloc::{AllocError, Global};
 
 // Reads a value with no blanks before it, within at most `depth` arrays and objects.
+// Inlined: an answer that a call hands up goes through memory, which is filled with zeros first.
+// So only values, elements and members are read by calls.
+#[inline(always)]
 #[cycle(value)]
 fn value_here(
     alloc: Global,
@@ -52,6 +55,7 @@ fn value_here(
 }
 
 /// Reads a value after blanks, within at most `depth` arrays and objects.
+#[inline(never)]
 #[cycle(value)]
 pub(crate) fn value_at(
     alloc: Global,
@@ -73,6 +77,7 @@ pub(crate) fn value_at(
 
 // Reads the elements of an array, of which there is one at least, and its closing bracket. Each
 // stands within at most `depth` arrays and objects.
+#[inline(never)]
 #[cycle(value)]
 fn elements_at(
     alloc: Global,
@@ -106,6 +111,7 @@ fn elements_at(
 }
 
 // Reads an array, of which each element stands within fewer than `depth` arrays and objects.
+#[inline(always)]
 #[cycle(value)]
 fn array_at(
     alloc: Global,
@@ -137,6 +143,7 @@ fn array_at(
 
 // Reads a member of an object after its name, which ends after `start` bytes. Its value stands
 // within at most `depth` arrays and objects.
+#[inline(always)]
 #[cycle(value)]
 fn member_after(
     alloc: Global,
@@ -168,6 +175,7 @@ fn member_after(
 }
 
 // Reads a member of an object, of which the value stands within at most `depth` arrays and objects.
+#[inline(always)]
 #[cycle(value)]
 fn member_at(
     alloc: Global,
@@ -190,6 +198,7 @@ fn member_at(
 
 // Reads the members of an object, of which there is one at least, and its closing bracket. Each
 // value stands within at most `depth` arrays and objects.
+#[inline(never)]
 #[cycle(value)]
 fn members_at(
     alloc: Global,
@@ -224,6 +233,7 @@ fn members_at(
 }
 
 // Reads an object, of which each value stands within fewer than `depth` arrays and objects.
+#[inline(always)]
 #[cycle(value)]
 fn object_at(
     alloc: Global,

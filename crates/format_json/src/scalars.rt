@@ -18,6 +18,8 @@ use format_json_scalars::{
 use std::alloc::{AllocError, Global};
 
 // Reads a number with which the bytes begin.
+// Inlined, as a word is: an answer that a call hands up goes through memory.
+#[inline(always)]
 pub(crate) fn number_at(
     alloc: Global,
     bytes: &[u8],
@@ -42,6 +44,7 @@ pub(crate) fn number_at(
 }
 
 // Reads a string with which the bytes begin.
+#[inline(never)]
 pub(crate) fn string_at(
     alloc: Global,
     bytes: &[u8],
@@ -63,6 +66,7 @@ pub(crate) fn string_at(
 }
 
 // Reads a word that spells the value.
+#[inline(always)]
 fn word_value(bytes: &[u8], partial: bool, word: &[u8], value: Value) -> Found<Value>
     ensures found { IsFound (IsWord word.now value) partial bytes.now result }
     ensures place { IsPlaced (λ whole rest. rest ≡ whole) bytes.now result }
@@ -76,6 +80,7 @@ fn word_value(bytes: &[u8], partial: bool, word: &[u8], value: Value) -> Found<V
 }
 
 // Reads a value that is neither an array nor an object.
+#[inline(always)]
 pub(crate) fn scalar_at(
     alloc: Global,
     bytes: &[u8],

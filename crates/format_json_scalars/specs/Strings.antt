@@ -1,5 +1,5 @@
 -- Strings, as RFC 8259 writes them: 34 is a quote, 92 a backslash, and 117 a u.
-use Rattle.std.specs.Prelude.{◌≡◌, ℕ, ◌+◌, ◌-◌, ◌*◌, ◌<◌, ◌==◌, nat_lt, Bool, true, not, ◌||◌, if◌then◌else◌, List, [], ◌∷◌, ◌++◌, ◌⊎◌, Option, Some, None}
+use Rattle.std.specs.Prelude.{◌≡◌, ℕ, ◌+◌, ◌-◌, ◌*◌, ◌<◌, ◌==◌, nat_lt, Bool, true, not, ◌&&◌, ◌||◌, if◌then◌else◌, List, [], ◌∷◌, ◌++◌, ◌⊎◌, Option, Some, None}
 use Rattle.std.specs.Char.{IsScalar, encode_utf8, digit_value}
 use Rattle.std.specs.Int.{IsInRange}
 
@@ -10,6 +10,10 @@ is_special c = 34 == c || (92 == c || nat_lt c 32)
 -- any other character or byte, which stands for itself
 abbrev pub is_plain : ℕ → Bool
 is_plain c = not (is_special c)
+
+-- a character of ASCII that stands for itself
+abbrev pub is_plain_ascii : ℕ → Bool
+is_plain_ascii c = is_plain c && nat_lt c 128
 
 -- the character for which a letter after a backslash stands: a quote, a backslash or a slash for
 -- itself, and b, f, n, r and t for a control character

@@ -4,7 +4,7 @@ ghost use Rattle.std.specs.Prelude.{◌≡◌, ◌≤◌, ◌<◌, length, take,
 ghost use Rattle.std.specs.String.{string_bytes};
 ghost use Rattle.format_lemmas.specs.Bytes.{Each, Starts, StartsWith};
 ghost use Rattle.format_json_scalars.specs.Numbers.{Tells};
-ghost use Rattle.format_json_scalars.specs.Strings.{is_plain};
+ghost use Rattle.format_json_scalars.specs.Strings.{is_plain, is_plain_ascii};
 ghost use Rattle.format_json_scalars.specs.StringAnswers.{BeginsChar};
 ghost use Rattle.format_json_scalars.specs.Escapes.{MayBeChar};
 ghost use Rattle.format_json_scalars.specs.CutChars.{may_follow, is_cut_char, IsLongestText};
@@ -45,6 +45,37 @@ fn plain_count(bytes: &[u8]) -> usize
         }
     }
     bytes.len()
+}
+
+// Returns whether a byte is a character of ASCII that stands for itself in a string.
+fn is_plain_ascii(byte: u8) -> bool
+    ensures { result ≡ is_plain_ascii byte }
+{
+    is_plain(byte) && byte < 0x80
+}
+
+// Returns the number of plain characters of ASCII with which the bytes begin.
+fn ascii_count(bytes: &[u8]) -> usize
+    ensures within { result ≤ length bytes.now }
+    ensures ascii { Each is_plain_ascii (take result bytes.now) }
+{
+    for (index, byte) in bytes.iter().enumerate() {
+        if !is_plain_ascii(*byte) {
+            return index;
+        }
+    }
+    bytes.len()
+}
+
+/// Returns plain characters of ASCII with which the bytes begin. Most strings are no more, and are
+/// read without looking through them for UTF-8.
+pub(crate) fn ascii_front(bytes: &[u8]) -> &str
+    ensures text { result.now ≡ take (length result.now) bytes.now }
+    ensures within { length result.now ≤ length bytes.now }
+    ensures ascii { Each is_plain_ascii result.now }
+{
+    let count = ascii_count(bytes);
+    unsafe { std::str::from_utf8_unchecked(&bytes[..count]) }
 }
 
 // Returns the longest prefix of the bytes that is UTF-8.

@@ -14,7 +14,7 @@ ghost use Rattle.format_json_scalars.specs.Escapes.{MayBeChar};
 ghost use Rattle.format_json_scalars.specs.Steps.{IsStep, IsReading};
 ghost use Rattle.format_json_scalars.specs.Tails.{IsCharAt};
 
-use crate::characters::{Step, append_plain, is_cut_text, plain_at};
+use crate::characters::{Step, append_plain, ascii_front, is_cut_text, plain_at};
 use crate::escapes::{Escape, escape_at};
 use std::alloc::{AllocError, Global};
 use winnow::error::ParserError;
@@ -75,6 +75,8 @@ pub(crate) fn char_at(bytes: &[u8]) -> Step
 }
 
 /// Reads a string with which the bytes begin.
+// Inlined: each caller takes the answer apart at once, and as a call it goes through memory.
+#[inline(always)]
 pub fn read_bytes(alloc: Global, bytes: &[u8]) -> Result<Reading, AllocError>
     ensures { IfOk result (IsReading bytes.now) }
 {
@@ -84,8 +86,9 @@ pub fn read_bytes(alloc: Global, bytes: &[u8]) -> Result<Reading, AllocError>
     if bytes[0] != b'"' {
         return Ok(Reading::Missing);
     }
-    let mut value = String::new(alloc);
-    let mut at = 1;
+    let front = ascii_front(&bytes[1..]);
+    let mut value = String::from_str(alloc, front)?;
+    let mut at = 1 + front.len();
     while at < bytes.len() {
         match append_next(&mut value, &bytes[at..])? {
             Step::Taken(width) => at += width,

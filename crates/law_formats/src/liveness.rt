@@ -4,12 +4,12 @@
 ghost use Rattle.format_csv.specs.Reading.{RowInPieces};
 ghost use Rattle.format_json.specs.TokenAnswers.{OneToken};
 ghost use Rattle.format_resp.specs.declared.grammar.ReplyTo.{ReplyTo};
-ghost use Rattle.winnow_live.specs.Live.{IsLive};
+ghost use Rattle.winnow_liveness.specs.Live.{IsLive};
 
 use format_csv::Row;
 use format_json::JsonToken;
 use format_resp::ReplyTo;
-use winnow::live::live_reading_law;
+use winnow::liveness::live_reading_law;
 use winnow::reader::Record;
 
 /// The parser of a record of comma-separated values asks for no more than it needs. It does

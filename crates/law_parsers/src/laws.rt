@@ -53,7 +53,7 @@ fn call_laws<
     determined_repeat_law::<I, E, P, P, G, usize, usize, usize>();
     determined_choice_law::<I, E, P, P, P, P, P, P, P, P, P, P, usize>();
     determined_list_law::<I, E, P, usize>();
-    determined_permutation_law::<I, E, P, P, P, usize, usize, usize>();
+    determined_permutation_law::<I, E, P, P, P, P, P, usize, usize, usize, usize, usize>();
     determined_bit_fields_law();
     bit_fields_law();
     determined_end_law::<I, u8, usize>();

@@ -1,7 +1,7 @@
 //! Liveness of a record as its user writes it, and the laws of liveness, each called once.
 
 ghost use Rattle.std.specs.Prelude.{ℕ, Bool, None};
-ghost use Rattle.winnow_live.specs.Live.{IsLive};
+ghost use Rattle.winnow_liveness.specs.Live.{IsLive};
 ghost use Rattle.winnow_parser.specs.Meanings.{IsTerminated};
 ghost use Rattle.winnow_reader.specs.Place.{IsByteSlice};
 ghost use Rattle.winnow_token.specs.OneOf.{IsOneOf};
@@ -9,7 +9,7 @@ ghost use Rattle.winnow_token.specs.TakeWhile.{TakesWhile};
 
 use crate::lines::NumberLine;
 use winnow_error::EmptyError;
-use winnow_live::{live_law, live_reading_law};
+use winnow_liveness::{live_law, live_reading_law};
 use winnow_token::Any;
 use winnow_wrap::Partial;
 

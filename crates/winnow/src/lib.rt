@@ -30,7 +30,7 @@ pub use winnow_exact as exact;
 pub use winnow_grammar as grammar;
 pub use winnow_grammar::{ByRule, Rule, by_rule};
 pub use winnow_limit as limit;
-pub use winnow_live as live;
+pub use winnow_liveness as liveness;
 pub use winnow_parser::{
     AndThen, ByBorrow, ByValue, Context, ContextWith, DefaultValue, ErrInto, Failure, FlatMap, Map,
     MapErr, ModalResult, OutputInto, ParseTo, Parser, Span, Taken, TryMap, Value, ValueTest,

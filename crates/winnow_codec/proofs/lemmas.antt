@@ -1,5 +1,9 @@
+pub mod Checks
+pub mod EndMarks
 pub mod Fixed
+pub mod Insides
 pub mod Lists
+pub mod Literals
 pub mod Parts
 pub mod Reading
 pub mod RoundTrips

@@ -83,3 +83,7 @@ pub IsFormat-ItemsAfter : {V : Type 0} (same : V → V → Type 0) (inner : Spel
     → IsFormat (HaveSameItems same) (SpellsItemsAfter count inner)
 IsFormat-ItemsAfter same inner f alike count exact g =
     IsFormat-Parts (λ v. v.items) (AreSameEach same) (SpellsList count inner) (IsFormat-List same inner f count (IsFormat-Exact alike count exact g))
+
+pub IsFormat-Items : {V : Type 0} (same : V → V → Type 0) (inner : Spelling V)
+    → IsFormat same inner → (n : ℕ) → IsFormat (HaveSameItems same) (SpellsItems inner n)
+IsFormat-Items same inner f n = IsFormat-Parts (λ v. v.items) (AreSameEach same) (SpellsTimes inner n) (IsFormat-Times same inner f n)

@@ -1,6 +1,6 @@
 //! A reference to a format as a format.
 
-use crate::{Format, Unwritten};
+use crate::{Exact, Format, Unwritten};
 use std::alloc::Global;
 use winnow_error::ParserError;
 use winnow_parser::ModalResult;
@@ -28,5 +28,14 @@ impl<F: Format> Format for &F {
     #[inline(always)]
     fn write(&self, value: &F::Value, bytes: &mut Vec<u8>) -> Result<(), Unwritten> {
         (**self).write(value, bytes)
+    }
+}
+
+impl<F: Exact> Exact for &F {
+    ghost exact = { F.exact };
+
+    #[inline(always)]
+    fn equal(left: &F::Value, right: &F::Value) -> bool {
+        F::equal(left, right)
     }
 }

@@ -28,7 +28,7 @@ pub fn list_after<C, F>(count: C, item: F) -> Listed<C, F>
 }
 
 // Reads that many values. Memory is asked for as values come, never for the count.
-fn read_items<I: StreamIsPartial<Token = u8>, E: ParserError<I>, F: Format>(
+pub(crate) fn read_items<I: StreamIsPartial<Token = u8>, E: ParserError<I>, F: Format>(
     item: &F,
     count: usize,
     alloc: Global,

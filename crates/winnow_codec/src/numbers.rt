@@ -4,7 +4,8 @@ ghost use Rattle.winnow_codec.specs.Formats.{IsEqual};
 ghost use Rattle.winnow_codec.specs.FormatNumbers.{bytes_in, SpellsNumber, IsFormat-Number};
 
 use crate::{
-    BigEndian, ByteOrder, Count, Exact, FixedWidth, Format, LittleEndian, U24, Unsigned, Unwritten,
+    BigEndian, ByteOrder, Count, Exact, FixedWidth, Format, I24, LittleEndian, U24, Unsigned,
+    Unwritten,
 };
 use std::alloc::Global;
 use std::marker::PhantomData;
@@ -39,7 +40,8 @@ impl<W: FixedWidth, O: ByteOrder> Format for Number<W, O> {
 
     ghost same = { IsEqual };
 
-    ghost lawful = { λ _. IsFormat-Number O.order O.ordered W.width W.value_of W.one_to_one };
+    ghost lawful = { λ _. IsFormat-Number O.order (bytes_in W.width)
+        (O.ordered.count W.width) (O.ordered.tells W.width) W.value_of W.one_to_one };
 
     #[inline(always)]
     fn read<I: StreamIsPartial<Token = u8>, E: ParserError<I>>(
@@ -117,6 +119,15 @@ pub fn be_i16() -> Be<i16> {
     Number::new()
 }
 
+/// Returns the format of a signed number of three bytes, the most significant first.
+///
+/// ```
+/// assert_eq!(rt; read_all(alloc, &be_i24(), b"\xff\xff\xfe")?, -2);
+/// ```
+pub fn be_i24() -> Be<I24> {
+    Number::new()
+}
+
 /// Returns the format of a signed number of four bytes, the most significant first.
 pub fn be_i32() -> Be<i32> {
     Number::new()
@@ -149,6 +160,11 @@ pub fn le_u64() -> Le<u64> {
 
 /// Returns the format of a signed number of two bytes, the least significant first.
 pub fn le_i16() -> Le<i16> {
+    Number::new()
+}
+
+/// Returns the format of a signed number of three bytes, the least significant first.
+pub fn le_i24() -> Le<I24> {
     Number::new()
 }
 

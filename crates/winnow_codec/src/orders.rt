@@ -34,7 +34,23 @@ pub trait ByteOrder: Sized {
             (λ _. bytes.new.items ≡ bytes.old.items ++ order (bytes_in width) number)
             (λ _. bytes.new.items ≡ bytes.old.items) };
 
-    // A number has as many bytes as its width says, and they tell it.
+    /// Reads a number of sixteen bytes. At least that many have to remain.
+    fn read_wide<I: Stream<Token = u8>>(input: &mut I) -> u128
+        requires valid { I.valid input.old }
+        requires enough { 16 ≤ length (I.remaining input.old) }
+        ensures fits { result < 256 ^ 16 }
+        ensures taken { Takes (order 16 result)
+            (ahead I.location I.remaining input.old) (ahead I.location I.remaining input.new) }
+        ensures valid { I.valid input.new }
+        ensures kept { I.keeps input.old input.new };
+
+    /// Appends the bytes of a number of sixteen bytes. If memory is refused, the bytes are what
+    /// they were.
+    fn write_wide(number: u128, bytes: &mut Vec<u8>) -> Result<(), AllocError>
+        ensures { MatchResult result (λ _. bytes.new.items ≡ bytes.old.items ++ order 16 number)
+            (λ _. bytes.new.items ≡ bytes.old.items) };
+
+    // A number has as many bytes as its width says or sixteen, and no other number has them.
     ghost ordered: { IsOrder order };
 }
 
@@ -76,6 +92,16 @@ impl ByteOrder for BigEndian {
         let all = number.to_be_bytes();
         bytes.extend_from_slice(&all[8 - width.bytes()..])
     }
+
+    fn read_wide<I: Stream<Token = u8>>(input: &mut I) -> u128 {
+        let high = BigEndian::read_number(Width::Eight, input);
+        let low = BigEndian::read_number(Width::Eight, input);
+        u128::from(high) * 18_446_744_073_709_551_616 + u128::from(low)
+    }
+
+    fn write_wide(number: u128, bytes: &mut Vec<u8>) -> Result<(), AllocError> {
+        bytes.extend_from_slice(&number.to_be_bytes())
+    }
 }
 
 /// The order in which the least significant byte comes first.
@@ -115,5 +141,15 @@ impl ByteOrder for LittleEndian {
     fn write_number(width: Width, number: u64, bytes: &mut Vec<u8>) -> Result<(), AllocError> {
         let all = number.to_le_bytes();
         bytes.extend_from_slice(&all[..width.bytes()])
+    }
+
+    fn read_wide<I: Stream<Token = u8>>(input: &mut I) -> u128 {
+        let low = LittleEndian::read_number(Width::Eight, input);
+        let high = LittleEndian::read_number(Width::Eight, input);
+        u128::from(high) * 18_446_744_073_709_551_616 + u128::from(low)
+    }
+
+    fn write_wide(number: u128, bytes: &mut Vec<u8>) -> Result<(), AllocError> {
+        bytes.extend_from_slice(&number.to_le_bytes())
     }
 }

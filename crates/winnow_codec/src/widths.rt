@@ -7,6 +7,7 @@ ghost use Rattle.winnow_codec.specs.declared.widths.Width.TheVariants.{One, Two}
 ghost use Rattle.winnow_codec.specs.declared.widths.Width.TheVariants.{Three, Four, Eight};
 ghost use Rattle.winnow_codec.specs.FormatNumbers.{bytes_in, unsigned, IsOneToOne};
 ghost use Rattle.winnow_codec.specs.Signed.{signed-one8, signed-one16, signed-one32, signed-one64};
+ghost use Rattle.winnow_codec.specs.Signed.{signed_three, signed-one24};
 
 use std::marker::PhantomData;
 
@@ -315,6 +316,50 @@ impl FixedWidth for U24 {
     }
 
     fn equal(left: &u32, right: &u32) -> bool {
+        *left == *right
+    }
+}
+
+/// The signed numbers of three bytes, as values of `i32`. A value below -2^23, or of 2^23 or more,
+/// is not spelled.
+#[derive(Clone, Copy)]
+pub struct I24;
+
+impl FixedWidth for I24 {
+    type Value = i32;
+
+    ghost width = { Three };
+
+    ghost value_of = { signed_three };
+
+    ghost one_to_one = { signed-one24 };
+
+    fn width() -> Width {
+        Width::Three
+    }
+
+    fn from_number(number: u64) -> i32 {
+        // The sign of the third byte goes to the fourth.
+        let extended = if number < 8_388_608 {
+            number as u32
+        } else {
+            number as u32 + 4_278_190_080
+        };
+        extended.cast_signed()
+    }
+
+    fn to_number(value: &i32) -> Option<u64> {
+        let extended = (*value).cast_unsigned();
+        if extended < 8_388_608 {
+            Some(u64::from(extended))
+        } else if extended < 4_286_578_688 {
+            None
+        } else {
+            Some(u64::from(extended - 4_278_190_080))
+        }
+    }
+
+    fn equal(left: &i32, right: &i32) -> bool {
         *left == *right
     }
 }

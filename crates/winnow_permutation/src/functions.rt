@@ -4,7 +4,7 @@ ghost use Rattle.std.specs.Prelude.{◌≡◌};
 
 use crate::Permutation;
 
-/// Returns the parser that calls each of a tuple of two or three parsers once, in any order, and
+/// Returns the parser that calls each of a tuple of two to five parsers once, in any order, and
 /// returns their values in the order of the tuple. At each place it tries those that have returned
 /// no value yet, in the order of the tuple, until one does not backtrack. If all of them backtrack,
 /// the whole backtracks at that place: their errors are joined by `or`, and `append` records in the

@@ -1,9 +1,10 @@
 //! The law that parsers in any order are deterministic.
 
 ghost use Rattle.winnow_parser.specs.Determined.{IsDetermined, Shows, AreBothSame};
-ghost use Rattle.winnow_parser.specs.DeterminedRows.{AreSame3};
+ghost use Rattle.winnow_parser.specs.DeterminedRows.{AreSame3, AreSame4, AreSame5};
 ghost use Rattle.winnow_combinator.specs.OneAnswer.{OneAnswer};
 ghost use Rattle.winnow_permutation.specs.Permutation.{IsPermutation2, IsPermutation3};
+ghost use Rattle.winnow_permutation.specs.Permutation.{IsPermutation4, IsPermutation5};
 
 use winnow_error::ParserError;
 use winnow_parser::Parser;
@@ -17,9 +18,13 @@ pub fn determined_permutation_law<
     A: Parser<I, E>,
     B: Parser<I, E>,
     C: Parser<I, E>,
+    D: Parser<I, E>,
+    F: Parser<I, E>,
     V,
     W,
     X,
+    Y,
+    Z,
 >()
     ensures two { (v : A.Output → V) (w : B.Output → W)
         (a : OneAnswer A.means v) (b : OneAnswer B.means w)
@@ -30,4 +35,16 @@ pub fn determined_permutation_law<
         → IsDetermined (AreSame3 (Shows v) (Shows w) (Shows x))
         (IsPermutation3 E.or_refusable E.append_refusable (A.means a.parser) (B.means b.parser)
         (C.means c.parser)) }
+    ensures four { (v : A.Output → V) (w : B.Output → W) (x : C.Output → X) (y : D.Output → Y)
+        (a : OneAnswer A.means v) (b : OneAnswer B.means w) (c : OneAnswer C.means x)
+        (d : OneAnswer D.means y)
+        → IsDetermined (AreSame4 (Shows v) (Shows w) (Shows x) (Shows y))
+        (IsPermutation4 E.or_refusable E.append_refusable (A.means a.parser) (B.means b.parser)
+        (C.means c.parser) (D.means d.parser)) }
+    ensures five { (v : A.Output → V) (w : B.Output → W) (x : C.Output → X) (y : D.Output → Y)
+        (z : F.Output → Z) (a : OneAnswer A.means v) (b : OneAnswer B.means w)
+        (c : OneAnswer C.means x) (d : OneAnswer D.means y) (f : OneAnswer F.means z)
+        → IsDetermined (AreSame5 (Shows v) (Shows w) (Shows x) (Shows y) (Shows z))
+        (IsPermutation5 E.or_refusable E.append_refusable (A.means a.parser) (B.means b.parser)
+        (C.means c.parser) (D.means d.parser) (F.means f.parser)) }
 {}

@@ -1,6 +1,7 @@
 //! Parsers in any order, each once.
 #![tactic(auto, using(winnow_parser::proofs::lemmas::OnwardLemmas::onward_steps))]
 
+mod after_turn;
 mod functions;
 mod laws;
 mod parsers;

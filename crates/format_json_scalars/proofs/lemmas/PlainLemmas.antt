@@ -1,14 +1,15 @@
 -- Plain bytes: which characters they spell, and where they are no UTF-8.
-use Rattle.std.proofs.Common.{◌≡◌, ℕ, ◌<◌, ◌≤◌, Bool, true, false, ◌&&◌, List, [], ◌∷◌, ◌++◌, length, take, drop, refl, sym, ◌∙◌, ap, subst, arith, inl, inr, append_assoc, take-append-drop, length-take, take_all}
+use Rattle.std.proofs.Common.{◌≡◌, ℕ, zero, suc, ◌<◌, ◌≤◌, Bool, true, false, ◌&&◌, List, [], ◌∷◌, ◌++◌, length, take, drop, refl, sym, ◌∙◌, ap, subst, arith, inl, inr, append_assoc, take-append-drop, length-take, take_all}
 use Rattle.std.proofs.lemmas.List.{take-take}
 use Rattle.std.specs.Prelude.{IsUtf8, encode_utf8_all}
+use Rattle.std.specs.Str.{IsAscii}
 use Rattle.std.specs.Char.{encode_utf8}
-use Rattle.std.proofs.lemmas.Str.{encode_ascii}
+use Rattle.std.proofs.lemmas.Str.{encode_ascii, IsUtf8-from_ascii}
 use Rattle.std.proofs.lemmas.Bool.Decides.{nat_tests, leb_tells}
 use lib.Utf8.{scalars}
 use Rattle.format_lemmas.specs.Bytes.{Each, Starts, StartsWith}
 use Rattle.format_lemmas.proofs.lemmas.ByteLemmas.{heads, each-after}
-use Rattle.format_json_scalars.specs.Strings.{is_plain, SpellsChar, SpellsChars}
+use Rattle.format_json_scalars.specs.Strings.{is_plain, is_plain_ascii, SpellsChar, SpellsChars}
 use Rattle.format_json_scalars.specs.CutChars.{is_cut_char}
 use Rattle.format_json_scalars.specs.Escapes.{MayBeChar, IsNoChar}
 use Rattle.format_json_scalars.proofs.lemmas.CutCharLemmas.{CanFinish-cut, breaks-off, no-ascii}
@@ -49,6 +50,24 @@ pub each-more : (xs : List ℕ) (b : ℕ) → Each is_plain xs → is_plain b �
     → Each is_plain (xs ++ b ∷ [])
 each-more [] b h e = (e, tt)
 each-more (x ∷ xs) b h e = (h.0, each-more xs b h.1 e)
+
+-- plain characters of ASCII are ASCII
+pub IsAscii-plain : (bytes : List ℕ) → Each is_plain_ascii bytes → IsAscii bytes
+IsAscii-plain [] each i = omega arith
+IsAscii-plain (b ∷ bytes) each zero = grind (arith, nat_tests, each.0)
+IsAscii-plain (b ∷ bytes) each (suc i) = IsAscii-plain bytes each.1 i
+
+-- they are plain
+plain-ascii : (bytes : List ℕ) → Each is_plain_ascii bytes → Each is_plain bytes
+plain-ascii [] each = tt
+plain-ascii (b ∷ bytes) each = ((both _ _ each.0).0, plain-ascii bytes each.1)
+
+-- plain characters of ASCII are spelt by themselves
+pub spells-ascii : (bytes : List ℕ) → Each is_plain_ascii bytes
+    → (cs : List ℕ) × (SpellsChars cs bytes × (bytes ≡ encode_utf8_all cs))
+spells-ascii bytes each =
+    let chars = IsUtf8-from_ascii bytes (IsAscii-plain bytes each) in
+    (chars.0, (subst (SpellsChars chars.0) chars.1.1 (spells-plain chars.0 chars.1.0 (subst (Each is_plain) (sym chars.1.1) (plain-ascii bytes each))), sym chars.1.1))
 
 -- a prefix of the plain bytes that is UTF-8 spells its characters
 pub plain-taken : (bytes : List ℕ) (count whole : ℕ) → count ≤ length bytes

@@ -1,14 +1,14 @@
 -- Strings: how a reader goes on over their characters, and that none is missed.
-use Rattle.std.proofs.Common.{◌≡◌, ◌≢◌, ℕ, ◌+◌, ◌-◌, ◌<◌, ◌≤◌, Bool, false, List, [], ◌∷◌, ◌++◌, length, take, drop, get_or, inl, ap, sym, ◌∙◌, subst, refl, arith, append_assoc, append-nil, take-append-drop, length-drop}
+use Rattle.std.proofs.Common.{◌≡◌, ◌≢◌, ℕ, suc, ◌+◌, ◌-◌, ◌<◌, ◌≤◌, Bool, false, List, [], ◌∷◌, ◌++◌, length, take, drop, get_or, inl, ap, sym, ◌∙◌, subst, refl, arith, append_assoc, append-nil, take-append-drop, length-drop}
 use Rattle.std.specs.Prelude.{encode_utf8_all}
 use Rattle.std.specs.Char.{encode_utf8}
 use Rattle.std.specs.declared.string.String.{String}
 use Rattle.std.specs.declared.alloc.Global.{Global}
 use Rattle.std.proofs.lemmas.List.{drop-drop, drop_all, take_rest}
 use Rattle.std.proofs.lemmas.Str.{encode_ascii, encodes-append}
-use Rattle.format_lemmas.specs.Bytes.{StartsWith}
+use Rattle.format_lemmas.specs.Bytes.{Each, StartsWith}
 use Rattle.format_lemmas.proofs.lemmas.ByteLemmas.{tails}
-use Rattle.format_json_scalars.specs.Strings.{SpellsChars, StringAhead}
+use Rattle.format_json_scalars.specs.Strings.{SpellsChars, StringAhead, is_plain_ascii}
 use Rattle.format_json_scalars.specs.StringAnswers.{BeginsChar, IsDamagedAt, IsBegun}
 use Rattle.format_json_scalars.specs.Escapes.{MayBeChar, IsNoChar, IsEscape}
 use Rattle.format_json_scalars.specs.Steps.{IsStep, StopsAt, HasRead, IsReading}
@@ -17,6 +17,7 @@ use Rattle.format_json_scalars.specs.declared.escapes.Escape.TheVariants.{Whole}
 use Rattle.format_json_scalars.specs.declared.characters.Step.{Step}
 use Rattle.format_json_scalars.specs.declared.characters.Step.TheVariants.{Taken}
 use Rattle.format_json_scalars.specs.declared.strings.Reading.TheVariants as reading
+use Rattle.format_json_scalars.proofs.lemmas.PlainLemmas.{spells-ascii}
 use Rattle.format_json_scalars.proofs.lemmas.SpellingLemmas.{spelling-no-quote, spelling-once, spells-append, spells-one, spells-past}
 
 -- ---- The first byte
@@ -52,6 +53,18 @@ escape-taken bytes old new c n is e =
     (is.0, is.1, (c ∷ [], (spells-one c (take n bytes) is.2, e ∙ ap (λ l. old ++ l) (sym (append-nil (encode_utf8 c))))))
 
 -- ---- The loop
+
+-- after the opening quote plain characters of ASCII are read
+pub read-front : (bytes front value : List ℕ) → StartsWith 34 bytes
+    → length front ≤ length (drop 1 bytes) → front ≡ take (length front) (drop 1 bytes)
+    → Each is_plain_ascii front → value ≡ front → HasRead bytes (1 + length front) value
+read-front [] front value quote within is each same = absurd quote
+read-front (b ∷ bytes) front value quote within is each same =
+    let chars = spells-ascii front each in
+    let split : bytes ≡ front ++ drop (length front) bytes =
+    sym (take-append-drop (length front) bytes) ∙ ap (λ l. l ++ drop (length front) bytes) (sym is) in
+    let next : suc (length front) ≡ 1 + length front = omega arith in
+    subst (λ n. HasRead (b ∷ bytes) n value) next (omega (arith, within), (front, (chars.0, (ap (λ x. x ∷ bytes) quote ∙ ap (λ l. 34 ∷ l) split, chars.1.0, same ∙ chars.1.1))))
 
 -- after the opening quote nothing is read
 pub read-begins : (bytes : List ℕ) → StartsWith 34 bytes → HasRead bytes 1 []

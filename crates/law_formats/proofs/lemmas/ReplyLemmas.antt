@@ -13,10 +13,10 @@ use Rattle.winnow_parser.specs.Outcome.{Ahead, Needs, Outcome, Fails, Meaning}
 use Rattle.winnow_parser.specs.Laws.{longer, IsStable, IsFinal, IsOnward}
 use Rattle.winnow_parser.specs.Determined.{IsDetermined, AreBothSame, AreSameIfAny, Respects, Shows, SlicesRespect}
 use Rattle.winnow_combinator.specs.Ending.{IsFail}
-use Rattle.winnow_live.specs.Live.{IsLive, IsPunctual}
-use Rattle.winnow_live.proofs.lemmas.PunctualLemmas.{IsPunctual-IsOneOf, IsPunctual-TakesWhile, IsPunctual-Maps, IsPunctual-Gathered, IsPunctual-CutsErr, IsPunctual-VerifyMaps, IsPunctual-Repeats, IsPunctual-Pair, IsPunctual-IsTerminated}
-use Rattle.winnow_live_nested.proofs.lemmas.CountLemmas.{IsPunctual-Takes, IsPunctual-Returns, IsPunctual-IsFail, IsPunctual-Ascending}
-use Rattle.winnow_live_nested.proofs.lemmas.NextLemmas.{IsPunctual-FlatMaps}
+use Rattle.winnow_liveness.specs.Live.{IsLive, IsPunctual}
+use Rattle.winnow_liveness.proofs.lemmas.PunctualLemmas.{IsPunctual-IsOneOf, IsPunctual-TakesWhile, IsPunctual-Maps, IsPunctual-Gathered, IsPunctual-CutsErr, IsPunctual-VerifyMaps, IsPunctual-Repeats, IsPunctual-Pair, IsPunctual-IsTerminated}
+use Rattle.winnow_liveness.proofs.lemmas.CountLemmas.{IsPunctual-Takes, IsPunctual-Returns, IsPunctual-IsFail, IsPunctual-Ascending}
+use Rattle.winnow_liveness.proofs.lemmas.NextLemmas.{IsPunctual-FlatMaps}
 use Rattle.format_resp.specs.Language.{is_in_line, IsInteger, IsLength, greatest_count}
 use Rattle.format_resp.specs.Meanings.{IsSimple, IsError, IsNumber, IsBulk, IsNullBulk, IsArray, IsNullArray, is_kind, most_digits, HasBytes, HasReplies, IsSame, IsCode, Of, Or, LineEnd, Line, Text, Number, Length, Bytes, BulkOf, BulkString, ArrayOf, Scalar, Body, Layer, Nested}
 use Rattle.format_resp.specs.declared.reply.Reply.{Reply}

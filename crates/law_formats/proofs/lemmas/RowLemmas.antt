@@ -5,8 +5,8 @@ use Rattle.std.specs.declared.alloc.Global.{Global}
 use Rattle.winnow.specs.Place.{IsByteSlice, SlicesStay-bytes}
 use Rattle.winnow_parser.specs.Determined.{Respects}
 use Rattle.winnow_parser.specs.Meanings.{IsForgotten}
-use Rattle.winnow_live.specs.Live.{IsLive, IsPunctual}
-use Rattle.winnow_live.proofs.lemmas.PunctualLemmas.{IsPunctual-on, IsPunctual-IsOneOf, IsPunctual-TakesWhile, IsPunctual-IsEof, IsPunctual-Maps, IsPunctual-Gathered, IsPunctual-Appending, IsPunctual-Countable, IsPunctual-IsNot, IsPunctual-CutsErr, IsPunctual-Repeats, IsPunctual-Pair, IsPunctual-IsPreceded, IsPunctual-IsTerminated, IsPunctual-IsAlt2, IsPunctual-IsSeparated}
+use Rattle.winnow_liveness.specs.Live.{IsLive, IsPunctual}
+use Rattle.winnow_liveness.proofs.lemmas.PunctualLemmas.{IsPunctual-on, IsPunctual-IsOneOf, IsPunctual-TakesWhile, IsPunctual-IsEof, IsPunctual-Maps, IsPunctual-Gathered, IsPunctual-Appending, IsPunctual-Countable, IsPunctual-IsNot, IsPunctual-CutsErr, IsPunctual-Repeats, IsPunctual-Pair, IsPunctual-IsPreceded, IsPunctual-IsTerminated, IsPunctual-IsAlt2, IsPunctual-IsSeparated}
 use Rattle.format_csv.specs.Fields.{is_plain}
 use Rattle.format_csv.specs.Meanings.{Byte, is_other, IsOfChunks, HasFields, Chunk, QuotedField, PlainField, AnyField, FieldList, RecordEnd, OneRow}
 use Rattle.format_csv.specs.Reading.{RowInPieces}

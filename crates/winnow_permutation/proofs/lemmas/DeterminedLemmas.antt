@@ -5,14 +5,14 @@ use Rattle.winnow_parser.specs.Outcome.{Ahead, Backtracks, Cuts, Needs, Refuses,
 use Rattle.winnow_parser.specs.Meanings.{Maps}
 use Rattle.winnow_parser.specs.FlatMap.{FlatMaps}
 use Rattle.winnow_parser.specs.Determined.{IsGranted, Agree, IsDetermined, AreBothSame, Respects}
-use Rattle.winnow_parser.specs.DeterminedRows.{AreSame3}
+use Rattle.winnow_parser.specs.DeterminedRows.{AreSame3, AreSame4, AreSame5}
 use Rattle.winnow_parser.proofs.lemmas.DeterminedLemmas.{determined-maps, determined-alt2}
 use Rattle.winnow_combinator.proofs.lemmas.CombinedLemmas.{determined-appending}
 use Rattle.winnow_permutation.specs.declared.turns.Turn.{Turn}
 use Rattle.winnow_permutation.specs.declared.turns.Turn.TheVariants.{This, Other}
 use Rattle.winnow_permutation.specs.Tried.{Tries}
 use Rattle.winnow_permutation.specs.AnyOrder.{IsThis, IsOther, TakesTurn}
-use Rattle.winnow_permutation.specs.Permutation.{TriesOnce, AfterFirst, BeforeSecond, OfFirst, OfSecond, OfThird, AfterTurn2, IsPermutation2, AfterTurn3, IsPermutation3}
+use Rattle.winnow_permutation.specs.Permutation.{TriesOnce, AfterTurn2, IsPermutation2, AfterTurn3, IsPermutation3, AfterTurn4, IsPermutation4, AfterTurn5, IsPermutation5}
 
 -- ---- A parser that goes back
 
@@ -132,79 +132,153 @@ module _ {O P T : Type 0} (same : O → O → Type 0) (alike : P → P → Type 
   meet-maps partial a (Fails f) (Gives z c) s t h k = d partial a (Fails f) (Gives k.0 c) s tt h k.1.1
   meet-maps partial a (Fails f) (Fails g) s t h k = d partial a (Fails f) (Fails g) s t h k
 
+module _ {O P T : Type 0} (same : O → O → Type 0) (alike : P → P → Type 0) (puts also : O → P) (agrees : (x y : O) → same x y → alike (puts x) (also y)) (inner : Meaning O T) (d : IsDetermined same inner) where
+  -- two functions that make the same of values that are the same
+  puts-respect : RespectBoth same alike (λ x all. puts x ≡ all) (λ x all. also x ≡ all)
+  puts-respect x y p q e h k = subst (λ o. alike o q) h (subst (alike (puts x)) k (agrees x y e))
+
+  -- the answers agree that two such functions make of one parser's
+  meet-puts : Meet alike (Maps (λ x all. puts x ≡ all) inner) (Maps (λ x all. also x ≡ all) inner)
+  meet-puts = meet-maps same alike (λ x all. puts x ≡ all) (λ x all. also x ≡ all) puts-respect inner d
+
 -- ---- Two parsers
 
-module _ {X Y : Type 0} (u : X → X → Type 0) (w : Y → Y → Type 0) where
-  after-respects : (x y : X) → u x y
-      → RespectBoth w (AreBothSame u w) (AfterFirst x) (AfterFirst y)
-  after-respects x y e m n p q f h k =
-      subst (λ o. AreBothSame u w o q) h (subst (AreBothSame u w (x, m)) k (e, f))
+module _ {X Y T : Type 0} (r q : Type 0) (u1 : X → X → Type 0) (u2 : Y → Y → Type 0) (a : Meaning X T) (b : Meaning Y T) (d1 : IsDetermined u1 a) (d2 : IsDetermined u2 b) where
+  -- two turns of two are the same
+  abbrev IsSameOf2 : Turn X Y → Turn X Y → Type 0
+  IsSameOf2 = IsSameTurn u1 u2
 
-  before-respects : (x y : Y) → w x y
-      → RespectBoth u (AreBothSame u w) (BeforeSecond x) (BeforeSecond y)
-  before-respects x y e m n p q f h k =
-      subst (λ o. AreBothSame u w o q) h (subst (AreBothSame u w (m, x)) k (f, e))
-
-module _ {X Y T : Type 0} (r q : Type 0) (u : X → X → Type 0) (w : Y → Y → Type 0) (a : Meaning X T) (b : Meaning Y T) (d : IsDetermined u a) (e : IsDetermined w b) where
-  -- what comes after the same turns agrees
-  meet-after2 : (s t : Turn X Y) → IsSameTurn u w s t
-      → Meet (AreBothSame u w) (AfterTurn2 q a b s) (AfterTurn2 q a b t)
+  -- what comes after the same turns of two agrees
+  meet-after2 : (s t : Turn X Y) → IsSameOf2 s t
+      → Meet (AreBothSame u1 u2) (AfterTurn2 q a b s) (AfterTurn2 q a b t)
   meet-after2 (This x) (This y) i =
-      meet-maps w (AreBothSame u w) (AfterFirst x) (AfterFirst y) (after-respects u w x y i) (TriesOnce q b) (determined-once w b e q)
+      meet-puts u2 (AreBothSame u1 u2) (λ p. (x, p)) (λ p. (y, p)) (λ p o h. (i, h)) (TriesOnce q b)
+      (determined-once u2 b d2 q)
   meet-after2 (This x) (Other y) i = absurd i
   meet-after2 (Other x) (This y) i = absurd i
   meet-after2 (Other x) (Other y) i =
-      meet-maps u (AreBothSame u w) (BeforeSecond x) (BeforeSecond y) (before-respects u w x y i) (TriesOnce q a) (determined-once u a d q)
+      meet-puts u1 (AreBothSame u1 u2) (λ p. (p, x)) (λ p. (p, y)) (λ p o h. (h, i)) (TriesOnce q a)
+      (determined-once u1 a d1 q)
 
   -- `IsPermutation2` has one answer where both parsers have one
-  pub determined-permutation2 : IsDetermined (AreBothSame u w) (IsPermutation2 r q a b)
+  pub determined-permutation2 : IsDetermined (AreBothSame u1 u2) (IsPermutation2 r q a b)
   determined-permutation2 =
-      determined-continued (IsSameTurn u w) (AreBothSame u w) (AfterTurn2 q a b) (TriesOnce q (TakesTurn r a b))
-      (determined-once (IsSameTurn u w) (TakesTurn r a b) (determined-turn u w r a b d e) q) meet-after2
+      let turn = TakesTurn r a b in
+      let of2 = determined-turn u1 u2 r a b d1 d2 in
+      determined-continued IsSameOf2 (AreBothSame u1 u2) (AfterTurn2 q a b) (TriesOnce q turn) (determined-once IsSameOf2 turn of2 q) meet-after2
 
 -- ---- Three parsers
 
-module _ {X Y Z : Type 0} (u : X → X → Type 0) (w : Y → Y → Type 0) (z : Z → Z → Type 0) where
-  first-respects : (x y : X) → u x y
-      → RespectBoth (AreBothSame w z) (AreSame3 u w z) (OfFirst x) (OfFirst y)
-  first-respects x y e m n p q f h k =
-      subst (λ o. AreSame3 u w z o q) h (subst (AreSame3 u w z (x, m.0, m.1)) k (e, f.0, f.1))
-
-  second-respects : (x y : Y) → w x y
-      → RespectBoth (AreBothSame u z) (AreSame3 u w z) (OfSecond x) (OfSecond y)
-  second-respects x y e m n p q f h k =
-      subst (λ o. AreSame3 u w z o q) h (subst (AreSame3 u w z (m.0, x, m.1)) k (f.0, e, f.1))
-
-  third-respects : (x y : Z) → z x y
-      → RespectBoth (AreBothSame u w) (AreSame3 u w z) (OfThird x) (OfThird y)
-  third-respects x y e m n p q f h k =
-      subst (λ o. AreSame3 u w z o q) h (subst (AreSame3 u w z (m.0, m.1, x)) k (f.0, f.1, e))
-
-module _ {X Y Z T : Type 0} (r q : Type 0) (u : X → X → Type 0) (w : Y → Y → Type 0) (z : Z → Z → Type 0) (a : Meaning X T) (b : Meaning Y T) (c : Meaning Z T) (d : IsDetermined u a) (e : IsDetermined w b) (f : IsDetermined z c) where
+module _ {X Y Z T : Type 0} (r q : Type 0) (u1 : X → X → Type 0) (u2 : Y → Y → Type 0) (u3 : Z → Z → Type 0) (a : Meaning X T) (b : Meaning Y T) (c : Meaning Z T) (d1 : IsDetermined u1 a) (d2 : IsDetermined u2 b) (d3 : IsDetermined u3 c) where
   -- two turns of three are the same
-  abbrev IsSameOfThree : Turn (Turn X Y) Z → Turn (Turn X Y) Z → Type 0
-  IsSameOfThree = IsSameTurn (IsSameTurn u w) z
+  abbrev IsSameOf3 : Turn (Turn X Y) Z → Turn (Turn X Y) Z → Type 0
+  IsSameOf3 = IsSameTurn (IsSameTurn u1 u2) u3
 
   -- what comes after the same turns of three agrees
-  meet-after3 : (s t : Turn (Turn X Y) Z) → IsSameOfThree s t
-      → Meet (AreSame3 u w z) (AfterTurn3 r q a b c s) (AfterTurn3 r q a b c t)
+  meet-after3 : (s t : Turn (Turn X Y) Z) → IsSameOf3 s t
+      → Meet (AreSame3 u1 u2 u3) (AfterTurn3 r q a b c s) (AfterTurn3 r q a b c t)
   meet-after3 (This (This x)) (This (This y)) i =
-      meet-maps (AreBothSame w z) (AreSame3 u w z) (OfFirst x) (OfFirst y) (first-respects u w z x y i) (IsPermutation2 r q b c)
-      (determined-permutation2 r q w z b c e f)
+      meet-puts (AreBothSame u2 u3) (AreSame3 u1 u2 u3) (λ p. (x, p.0, p.1)) (λ p. (y, p.0, p.1)) (λ p o h. (i, h.0, h.1)) (IsPermutation2 r q b c)
+      (determined-permutation2 r q u2 u3 b c d2 d3)
   meet-after3 (This (This x)) (This (Other y)) i = absurd i
   meet-after3 (This (Other x)) (This (This y)) i = absurd i
   meet-after3 (This (Other x)) (This (Other y)) i =
-      meet-maps (AreBothSame u z) (AreSame3 u w z) (OfSecond x) (OfSecond y) (second-respects u w z x y i) (IsPermutation2 r q a c)
-      (determined-permutation2 r q u z a c d f)
+      meet-puts (AreBothSame u1 u3) (AreSame3 u1 u2 u3) (λ p. (p.0, x, p.1)) (λ p. (p.0, y, p.1)) (λ p o h. (h.0, i, h.1)) (IsPermutation2 r q a c)
+      (determined-permutation2 r q u1 u3 a c d1 d3)
   meet-after3 (This x) (Other y) i = absurd i
   meet-after3 (Other x) (This y) i = absurd i
   meet-after3 (Other x) (Other y) i =
-      meet-maps (AreBothSame u w) (AreSame3 u w z) (OfThird x) (OfThird y) (third-respects u w z x y i) (IsPermutation2 r q a b)
-      (determined-permutation2 r q u w a b d e)
+      meet-puts (AreBothSame u1 u2) (AreSame3 u1 u2 u3) (λ p. (p.0, p.1, x)) (λ p. (p.0, p.1, y)) (λ p o h. (h.0, h.1, i)) (IsPermutation2 r q a b)
+      (determined-permutation2 r q u1 u2 a b d1 d2)
 
   -- `IsPermutation3` has one answer where all three parsers have one
-  pub determined-permutation3 : IsDetermined (AreSame3 u w z) (IsPermutation3 r q a b c)
+  pub determined-permutation3 : IsDetermined (AreSame3 u1 u2 u3) (IsPermutation3 r q a b c)
   determined-permutation3 =
       let turn = TakesTurn r (TakesTurn r a b) c in
-      determined-continued IsSameOfThree (AreSame3 u w z) (AfterTurn3 r q a b c) (TriesOnce q turn)
-      (determined-once IsSameOfThree turn (determined-turn (IsSameTurn u w) z r (TakesTurn r a b) c (determined-turn u w r a b d e) f) q) meet-after3
+      let of2 = determined-turn u1 u2 r a b d1 d2 in
+      let of3 = determined-turn (IsSameTurn u1 u2) u3 r (TakesTurn r a b) c of2 d3 in
+      determined-continued IsSameOf3 (AreSame3 u1 u2 u3) (AfterTurn3 r q a b c) (TriesOnce q turn) (determined-once IsSameOf3 turn of3 q) meet-after3
+
+-- ---- Four parsers
+
+module _ {X Y Z V T : Type 0} (r q : Type 0) (u1 : X → X → Type 0) (u2 : Y → Y → Type 0) (u3 : Z → Z → Type 0) (u4 : V → V → Type 0) (a : Meaning X T) (b : Meaning Y T) (c : Meaning Z T) (d : Meaning V T) (d1 : IsDetermined u1 a) (d2 : IsDetermined u2 b) (d3 : IsDetermined u3 c) (d4 : IsDetermined u4 d) where
+  -- two turns of four are the same
+  abbrev IsSameOf4 : Turn (Turn (Turn X Y) Z) V → Turn (Turn (Turn X Y) Z) V → Type 0
+  IsSameOf4 = IsSameTurn (IsSameTurn (IsSameTurn u1 u2) u3) u4
+
+  -- what comes after the same turns of four agrees
+  meet-after4 : (s t : Turn (Turn (Turn X Y) Z) V) → IsSameOf4 s t
+      → Meet (AreSame4 u1 u2 u3 u4) (AfterTurn4 r q a b c d s) (AfterTurn4 r q a b c d t)
+  meet-after4 (This (This (This x))) (This (This (This y))) i =
+      meet-puts (AreSame3 u2 u3 u4) (AreSame4 u1 u2 u3 u4) (λ p. (x, p.0, p.1, p.2)) (λ p. (y, p.0, p.1, p.2)) (λ p o h. (i, h.0, h.1, h.2)) (IsPermutation3 r q b c d)
+      (determined-permutation3 r q u2 u3 u4 b c d d2 d3 d4)
+  meet-after4 (This (This (This x))) (This (This (Other y))) i = absurd i
+  meet-after4 (This (This (Other x))) (This (This (This y))) i = absurd i
+  meet-after4 (This (This (Other x))) (This (This (Other y))) i =
+      meet-puts (AreSame3 u1 u3 u4) (AreSame4 u1 u2 u3 u4) (λ p. (p.0, x, p.1, p.2)) (λ p. (p.0, y, p.1, p.2)) (λ p o h. (h.0, i, h.1, h.2)) (IsPermutation3 r q a c d)
+      (determined-permutation3 r q u1 u3 u4 a c d d1 d3 d4)
+  meet-after4 (This (This x)) (This (Other y)) i = absurd i
+  meet-after4 (This (Other x)) (This (This y)) i = absurd i
+  meet-after4 (This (Other x)) (This (Other y)) i =
+      meet-puts (AreSame3 u1 u2 u4) (AreSame4 u1 u2 u3 u4) (λ p. (p.0, p.1, x, p.2)) (λ p. (p.0, p.1, y, p.2)) (λ p o h. (h.0, h.1, i, h.2)) (IsPermutation3 r q a b d)
+      (determined-permutation3 r q u1 u2 u4 a b d d1 d2 d4)
+  meet-after4 (This x) (Other y) i = absurd i
+  meet-after4 (Other x) (This y) i = absurd i
+  meet-after4 (Other x) (Other y) i =
+      meet-puts (AreSame3 u1 u2 u3) (AreSame4 u1 u2 u3 u4) (λ p. (p.0, p.1, p.2, x)) (λ p. (p.0, p.1, p.2, y)) (λ p o h. (h.0, h.1, h.2, i)) (IsPermutation3 r q a b c)
+      (determined-permutation3 r q u1 u2 u3 a b c d1 d2 d3)
+
+  -- `IsPermutation4` has one answer where all four parsers have one
+  pub determined-permutation4 : IsDetermined (AreSame4 u1 u2 u3 u4) (IsPermutation4 r q a b c d)
+  determined-permutation4 =
+      let turn = TakesTurn r (TakesTurn r (TakesTurn r a b) c) d in
+      let of2 = determined-turn u1 u2 r a b d1 d2 in
+      let of3 = determined-turn (IsSameTurn u1 u2) u3 r (TakesTurn r a b) c of2 d3 in
+      let of4 = determined-turn (IsSameTurn (IsSameTurn u1 u2) u3) u4 r (TakesTurn r (TakesTurn r a b) c) d of3 d4 in
+      determined-continued IsSameOf4 (AreSame4 u1 u2 u3 u4) (AfterTurn4 r q a b c d) (TriesOnce q turn) (determined-once IsSameOf4 turn of4 q) meet-after4
+
+-- ---- Five parsers
+
+module _ {X Y Z V W T : Type 0} (r q : Type 0) (u1 : X → X → Type 0) (u2 : Y → Y → Type 0) (u3 : Z → Z → Type 0) (u4 : V → V → Type 0) (u5 : W → W → Type 0) (a : Meaning X T) (b : Meaning Y T) (c : Meaning Z T) (d : Meaning V T) (e : Meaning W T) (d1 : IsDetermined u1 a) (d2 : IsDetermined u2 b) (d3 : IsDetermined u3 c) (d4 : IsDetermined u4 d) (d5 : IsDetermined u5 e) where
+  -- two turns of five are the same
+  abbrev IsSameOf5 : Turn (Turn (Turn (Turn X Y) Z) V) W
+      → Turn (Turn (Turn (Turn X Y) Z) V) W → Type 0
+  IsSameOf5 = IsSameTurn (IsSameTurn (IsSameTurn (IsSameTurn u1 u2) u3) u4) u5
+
+  -- what comes after the same turns of five agrees
+  meet-after5 : (s t : Turn (Turn (Turn (Turn X Y) Z) V) W) → IsSameOf5 s t
+      → Meet (AreSame5 u1 u2 u3 u4 u5) (AfterTurn5 r q a b c d e s) (AfterTurn5 r q a b c d e t)
+  meet-after5 (This (This (This (This x)))) (This (This (This (This y)))) i =
+      meet-puts (AreSame4 u2 u3 u4 u5) (AreSame5 u1 u2 u3 u4 u5) (λ p. (x, p.0, p.1, p.2, p.3)) (λ p. (y, p.0, p.1, p.2, p.3)) (λ p o h. (i, h.0, h.1, h.2, h.3)) (IsPermutation4 r q b c d e)
+      (determined-permutation4 r q u2 u3 u4 u5 b c d e d2 d3 d4 d5)
+  meet-after5 (This (This (This (This x)))) (This (This (This (Other y)))) i = absurd i
+  meet-after5 (This (This (This (Other x)))) (This (This (This (This y)))) i = absurd i
+  meet-after5 (This (This (This (Other x)))) (This (This (This (Other y)))) i =
+      meet-puts (AreSame4 u1 u3 u4 u5) (AreSame5 u1 u2 u3 u4 u5) (λ p. (p.0, x, p.1, p.2, p.3)) (λ p. (p.0, y, p.1, p.2, p.3)) (λ p o h. (h.0, i, h.1, h.2, h.3)) (IsPermutation4 r q a c d e)
+      (determined-permutation4 r q u1 u3 u4 u5 a c d e d1 d3 d4 d5)
+  meet-after5 (This (This (This x))) (This (This (Other y))) i = absurd i
+  meet-after5 (This (This (Other x))) (This (This (This y))) i = absurd i
+  meet-after5 (This (This (Other x))) (This (This (Other y))) i =
+      meet-puts (AreSame4 u1 u2 u4 u5) (AreSame5 u1 u2 u3 u4 u5) (λ p. (p.0, p.1, x, p.2, p.3)) (λ p. (p.0, p.1, y, p.2, p.3)) (λ p o h. (h.0, h.1, i, h.2, h.3)) (IsPermutation4 r q a b d e)
+      (determined-permutation4 r q u1 u2 u4 u5 a b d e d1 d2 d4 d5)
+  meet-after5 (This (This x)) (This (Other y)) i = absurd i
+  meet-after5 (This (Other x)) (This (This y)) i = absurd i
+  meet-after5 (This (Other x)) (This (Other y)) i =
+      meet-puts (AreSame4 u1 u2 u3 u5) (AreSame5 u1 u2 u3 u4 u5) (λ p. (p.0, p.1, p.2, x, p.3)) (λ p. (p.0, p.1, p.2, y, p.3)) (λ p o h. (h.0, h.1, h.2, i, h.3)) (IsPermutation4 r q a b c e)
+      (determined-permutation4 r q u1 u2 u3 u5 a b c e d1 d2 d3 d5)
+  meet-after5 (This x) (Other y) i = absurd i
+  meet-after5 (Other x) (This y) i = absurd i
+  meet-after5 (Other x) (Other y) i =
+      meet-puts (AreSame4 u1 u2 u3 u4) (AreSame5 u1 u2 u3 u4 u5) (λ p. (p.0, p.1, p.2, p.3, x)) (λ p. (p.0, p.1, p.2, p.3, y)) (λ p o h. (h.0, h.1, h.2, h.3, i)) (IsPermutation4 r q a b c d)
+      (determined-permutation4 r q u1 u2 u3 u4 a b c d d1 d2 d3 d4)
+
+  -- `IsPermutation5` has one answer where all five parsers have one
+  pub determined-permutation5 : IsDetermined (AreSame5 u1 u2 u3 u4 u5)
+      (IsPermutation5 r q a b c d e)
+  determined-permutation5 =
+      let turn = TakesTurn r (TakesTurn r (TakesTurn r (TakesTurn r a b) c) d) e in
+      let of2 = determined-turn u1 u2 r a b d1 d2 in
+      let of3 = determined-turn (IsSameTurn u1 u2) u3 r (TakesTurn r a b) c of2 d3 in
+      let of4 = determined-turn (IsSameTurn (IsSameTurn u1 u2) u3) u4 r (TakesTurn r (TakesTurn r a b) c) d of3 d4 in
+      let of5 = determined-turn (IsSameTurn (IsSameTurn (IsSameTurn u1 u2) u3) u4) u5 r (TakesTurn r (TakesTurn r (TakesTurn r a b) c) d) e of4 d5 in
+      determined-continued IsSameOf5 (AreSame5 u1 u2 u3 u4 u5) (AfterTurn5 r q a b c d e) (TriesOnce q turn) (determined-once IsSameOf5 turn of5 q) meet-after5

@@ -1,9 +1,22 @@
-use Rattle.std.proofs.Common.{sym, subst, arith}
+use Rattle.std.proofs.Common.{◌≡◌, ◌<◌, ◌≤◌, length, take, sym, subst, arith}
+use Rattle.std.proofs.lemmas.Bool.Decides.{nat_tests}
+use Rattle.std.proofs.lemmas.List.{take_rest}
 use Rattle.std.specs.String.{string_bytes}
 use Rattle.format_json_scalars.specs.Steps.{HasRead}
 use Rattle.format_json_scalars.specs.declared.characters.Step.TheVariants.{Taken, Ended, Begun, Wrong}
-use Rattle.format_json_scalars.proofs.lemmas.StringLemmas.{step-at, read-on, read-ends, read-stops, read-all}
+use Rattle.format_json_scalars.proofs.lemmas.StringLemmas.{starts-with, step-at, read-front, read-on, read-ends, read-stops, read-all}
 use Rattle.format_json_scalars.proofs.strings.read_bytes.Goals as goal
+
+pub loop-at-init : goal.loop-at-init
+loop-at-init c =
+    let bytes = c.args.bytes.now in
+    let front = c.ascii_front-front.result.now in
+    let some : 0 < length bytes = grind (arith, nat_tests, c.is_empty.ensures, c.if-is_empty.false) in
+    let rest = take_rest bytes 1 in
+    read-front bytes front (string_bytes c.in_ok-value.value) (starts-with bytes 34 some c.if-bytes-ne34.false)
+    (subst (λ t. length front ≤ length t) rest c.ascii_front-front.ensures.within)
+    (subst (λ t. front ≡ take (length front) t) rest c.ascii_front-front.ensures.text)
+    c.ascii_front-front.ensures.ascii c.in_ok-value.ensures.ok
 
 pub loop-at-preserved : goal.loop-at-preserved
 loop-at-preserved c =

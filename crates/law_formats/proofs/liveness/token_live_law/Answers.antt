@@ -1,7 +1,7 @@
 use Rattle.std.proofs.Common.{ap, arith}
 use Rattle.winnow.specs.Determined.{Shows}
 use Rattle.winnow.specs.Wanted.{size_of}
-use Rattle.winnow_live.proofs.lemmas.ReaderLemmas.{IsLive-ones}
+use Rattle.winnow_liveness.proofs.lemmas.ReaderLemmas.{IsLive-ones}
 use Rattle.format_json.specs.TokenAnswers.{OneToken}
 use Rattle.format_json.proofs.lemmas.JsonTokenLemmas.{token-determined}
 use Rattle.law_formats.proofs.liveness.token_live_law.Goals as goal

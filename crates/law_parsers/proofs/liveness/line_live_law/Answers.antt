@@ -4,9 +4,9 @@ use Rattle.winnow_token.specs.OneOf.{IsOneOf}
 use Rattle.winnow_token.specs.TakeWhile.{TakesWhile, IsParser-TakesWhile}
 use Rattle.winnow_token.proofs.lemmas.ToldLemmas.{determined-take_while}
 use Rattle.winnow_reader.specs.Place.{IsByteSlice, SlicesStay-bytes}
-use Rattle.winnow_live.proofs.lemmas.ImageLemmas.{IsLive-Maps}
-use Rattle.winnow_live.proofs.lemmas.PairLemmas.{IsLive-Pair}
-use Rattle.winnow_live.proofs.lemmas.TokenLemmas.{IsLive-IsOneOf, IsLive-TakesWhile}
+use Rattle.winnow_liveness.proofs.lemmas.ImageLemmas.{IsLive-Maps}
+use Rattle.winnow_liveness.proofs.lemmas.PairLemmas.{IsLive-Pair}
+use Rattle.winnow_liveness.proofs.lemmas.TokenLemmas.{IsLive-IsOneOf, IsLive-TakesWhile}
 use Rattle.law_parsers.proofs.liveness.line_live_law.Goals as goal
 
 pub returns : goal.returns

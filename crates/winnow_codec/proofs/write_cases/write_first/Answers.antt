@@ -2,7 +2,7 @@ use Rattle.std.proofs.Common.{refl, sym, subst}
 use Rattle.winnow_codec.specs.Byte.{SpellsByte}
 use Rattle.winnow_codec.specs.Writing.{Writes}
 use Rattle.winnow_codec.specs.Cases.{SpellsTagged, SpellsCase, case_tag}
-use Rattle.winnow_codec.specs.declared.choice.Choice.TheVariants.{First, Other}
+use Rattle.winnow_codec.specs.declared.choice.Choice.TheVariants.{First}
 use Rattle.winnow_codec.proofs.lemmas.Tags.{case-written}
 use Rattle.winnow_codec.proofs.write_cases.write_first.Goals as goal
 

@@ -1,0 +1,219 @@
+/* The calls that woldbraid.h declares: a test of each argument, and one call of what the proved library exports.
+ *
+ * The proved library requires what these tests see to: that a handle has a reader, or none where one is made; that a pointer has as many
+ * bytes as its length says; and that a length is at most PTRDIFF_MAX.
+ */
+#include "woldbraid.h"
+
+#include <stdlib.h>
+
+/* A reader as the proved library has it: a pointer that it alone reads and writes. */
+struct wb_json_reader {
+    unsigned char *at;
+};
+
+struct wb_csv_reader {
+    unsigned char *at;
+};
+
+extern uint32_t woldbraid_json_new(wb_json_reader *handle, size_t depth, size_t kept);
+extern uint32_t woldbraid_json_next(wb_json_reader *handle, wb_json_event *event);
+extern size_t woldbraid_json_level(wb_json_reader *handle);
+extern uint32_t woldbraid_csv_new(wb_csv_reader *handle, size_t kept);
+extern uint32_t woldbraid_csv_next(wb_csv_reader *handle, wb_csv_record *record);
+/* Of any reader. */
+extern uint32_t woldbraid_push(void *handle, const uint8_t *piece, size_t length);
+extern void woldbraid_end(void *handle);
+extern size_t woldbraid_fed(void *handle);
+extern size_t woldbraid_held(void *handle);
+extern void woldbraid_free(void *handle);
+
+static wb_status push(void *reader, const void *piece, size_t length)
+{
+    static const uint8_t nothing[1] = {0};
+    if (reader == NULL || length > PTRDIFF_MAX || (piece == NULL && length != 0))
+        return WB_MISUSED;
+    return woldbraid_push(reader, piece == NULL ? nothing : piece, length);
+}
+
+static wb_status end(void *reader)
+{
+    if (reader == NULL)
+        return WB_MISUSED;
+    woldbraid_end(reader);
+    return WB_OK;
+}
+
+wb_json_reader *wb_json_new(const wb_json_limits *limits)
+{
+    size_t depth = limits == NULL ? WB_JSON_DEPTH : limits->depth;
+    size_t kept = limits == NULL ? WB_JSON_KEPT : limits->kept;
+    wb_json_reader *reader = malloc(sizeof *reader);
+    if (reader == NULL)
+        return NULL;
+    reader->at = NULL;
+    if (woldbraid_json_new(reader, depth, kept) != WB_OK) {
+        free(reader);
+        return NULL;
+    }
+    return reader;
+}
+
+wb_json_reader *wb_json_of(const void *text, size_t length, const wb_json_limits *limits)
+{
+    wb_json_reader *reader = wb_json_new(limits);
+    if (reader == NULL)
+        return NULL;
+    if (wb_json_push(reader, text, length) != WB_OK) {
+        wb_json_free(reader);
+        return NULL;
+    }
+    woldbraid_end(reader);
+    return reader;
+}
+
+wb_status wb_json_push(wb_json_reader *reader, const void *piece, size_t length)
+{
+    return push(reader, piece, length);
+}
+
+wb_status wb_json_end(wb_json_reader *reader)
+{
+    return end(reader);
+}
+
+wb_status wb_json_next(wb_json_reader *reader, wb_json_event *event)
+{
+    static const wb_json_event none;
+    if (reader == NULL || event == NULL)
+        return WB_MISUSED;
+    /* The proved library takes a struct whose fields all have a value. */
+    *event = none;
+    return woldbraid_json_next(reader, event);
+}
+
+size_t wb_json_fed(wb_json_reader *reader)
+{
+    return reader == NULL ? 0 : woldbraid_fed(reader);
+}
+
+size_t wb_json_held(wb_json_reader *reader)
+{
+    return reader == NULL ? 0 : woldbraid_held(reader);
+}
+
+size_t wb_json_level(wb_json_reader *reader)
+{
+    return reader == NULL ? 0 : woldbraid_json_level(reader);
+}
+
+void wb_json_free(wb_json_reader *reader)
+{
+    if (reader == NULL)
+        return;
+    woldbraid_free(reader);
+    free(reader);
+}
+
+wb_csv_reader *wb_csv_new(const wb_csv_limits *limits)
+{
+    wb_csv_reader *reader = malloc(sizeof *reader);
+    if (reader == NULL)
+        return NULL;
+    reader->at = NULL;
+    if (woldbraid_csv_new(reader, limits == NULL ? WB_CSV_KEPT : limits->kept) != WB_OK) {
+        free(reader);
+        return NULL;
+    }
+    return reader;
+}
+
+wb_csv_reader *wb_csv_of(const void *text, size_t length, const wb_csv_limits *limits)
+{
+    wb_csv_reader *reader = wb_csv_new(limits);
+    if (reader == NULL)
+        return NULL;
+    if (push(reader, text, length) != WB_OK) {
+        wb_csv_free(reader);
+        return NULL;
+    }
+    woldbraid_end(reader);
+    return reader;
+}
+
+wb_status wb_csv_push(wb_csv_reader *reader, const void *piece, size_t length)
+{
+    return push(reader, piece, length);
+}
+
+wb_status wb_csv_end(wb_csv_reader *reader)
+{
+    return end(reader);
+}
+
+wb_status wb_csv_next(wb_csv_reader *reader, wb_csv_record *record)
+{
+    static const wb_csv_record none;
+    if (reader == NULL || record == NULL)
+        return WB_MISUSED;
+    /* The proved library takes a struct whose fields all have a value. */
+    *record = none;
+    return woldbraid_csv_next(reader, record);
+}
+
+size_t wb_csv_fed(wb_csv_reader *reader)
+{
+    return reader == NULL ? 0 : woldbraid_fed(reader);
+}
+
+size_t wb_csv_held(wb_csv_reader *reader)
+{
+    return reader == NULL ? 0 : woldbraid_held(reader);
+}
+
+void wb_csv_free(wb_csv_reader *reader)
+{
+    if (reader == NULL)
+        return;
+    woldbraid_free(reader);
+    free(reader);
+}
+
+const char *wb_status_text(wb_status status)
+{
+    switch (status) {
+    case WB_OK: return "done as asked";
+    case WB_DONE: return "the input is read to its end";
+    case WB_NEEDS_MORE: return "more bytes are needed, or the end of the input";
+    case WB_FULL: return "more bytes wait to be read than may be kept";
+    case WB_ENDED: return "the input has ended before";
+    case WB_TOO_LONG: return "the input is too long";
+    case WB_REFUSED: return "memory was refused";
+    case WB_DAMAGED: return "the input is damaged";
+    case WB_UNEXPECTED: return "what stands there may not";
+    case WB_TOO_DEEP: return "too many arrays and objects are open";
+    case WB_ENDS_EARLY: return "the input ends early";
+    case WB_OTHER_FORMAT: return "the reader is that of another format";
+    case WB_MISUSED: return "an argument is missing, or a length is too large";
+    default: return "no status";
+    }
+}
+
+const char *wb_json_cause_text(uint32_t cause)
+{
+    switch (cause) {
+    case WB_JSON_WIDE_TEXT: return "a byte of UTF-16 or UTF-32, and JSON is in UTF-8";
+    case WB_JSON_BYTE_ORDER_MARK: return "a byte order mark, or another character that is not ASCII, outside a string";
+    case WB_JSON_COMMENT: return "a comment, which JSON does not have";
+    case WB_JSON_SINGLE_QUOTE: return "a single quote, and strings are in double quotes";
+    case WB_JSON_OTHER_WORD: return "a word other than true, false and null";
+    case WB_JSON_NO_TOKEN: return "no token of JSON begins here";
+    case WB_JSON_LEADING_ZERO: return "a number with a zero before its first digit";
+    case WB_JSON_BAD_NUMBER: return "a number that JSON does not write so";
+    case WB_JSON_BAD_ESCAPE: return "no escape of JSON";
+    case WB_JSON_LONE_SURROGATE: return "a surrogate without the other one of its pair";
+    case WB_JSON_CONTROL_CHARACTER: return "a control character, which is an escape in a string";
+    case WB_JSON_BAD_UTF8: return "bytes that are no UTF-8";
+    default: return "no cause";
+    }
+}

@@ -1,8 +1,0 @@
-use Rattle.std.proofs.Common.{ap, ◌∙◌}
-use Rattle.winnow.specs.State.{ended_after}
-use Rattle.format_csv_records.proofs.lemmas.ReadLemmas.{read-end}
-use Rattle.format_csv_records.proofs.record_reader.RecordReader.end.Goals as goal
-
-pub returns-clause-read : goal.returns-clause-read
-returns-clause-read c =
-    read-end c.args.self.now c.end.new.self (c.end.ensures.state ∙ ap ended_after c.self.view_is)

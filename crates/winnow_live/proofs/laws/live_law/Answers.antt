@@ -1,6 +1,0 @@
-use Rattle.winnow_parser.specs.Determined.{Shows}
-use Rattle.winnow_live.proofs.lemmas.ReaderLemmas.{IsLive-of}
-use Rattle.winnow_live.proofs.laws.live_law.Goals as goal
-
-pub returns : goal.returns
-returns g c view p d prompt = IsLive-of (Shows view) _ d prompt

@@ -1,3 +1,0 @@
-pub mod CountLemmas
-pub mod NestedLemmas
-pub mod NextLemmas

@@ -1,0 +1,9 @@
+pub mod ImageLemmas
+pub mod PairLemmas
+pub mod RepeatLemmas
+pub mod ReaderLemmas
+pub mod TokenLemmas
+pub mod PunctualLemmas
+pub mod CountLemmas
+pub mod NestedLemmas
+pub mod NextLemmas

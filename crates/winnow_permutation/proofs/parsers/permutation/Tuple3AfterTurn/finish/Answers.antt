@@ -1,0 +1,40 @@
+use Rattle.std.specs.Prelude.{◌≡◌}
+use Rattle.std.proofs.Common.{refl}
+use Rattle.winnow_parser.specs.Outcome.{Gives}
+use Rattle.winnow_parser.specs.Answer.{ahead}
+use Rattle.winnow_permutation.specs.declared.turns.Turn.TheVariants.{This, Other}
+use Rattle.winnow_permutation.specs.Permutation.{AfterTurn3}
+use Rattle.winnow_permutation.proofs.lemmas.TurnLemmas.{after-turn}
+use Rattle.winnow_permutation.proofs.parsers.permutation.Tuple3AfterTurn.finish.Goals as goal
+
+pub returns-in-Ok-clause-means : goal.returns-in-Ok-clause-means
+returns-in-Ok-clause-means g c =
+    let after = AfterTurn3 g.E.ParserError.or_refusable g.E.ParserError.append_refusable (g.A.Parser.means c.args.self.now.0) (g.B.Parser.means c.args.self.now.1) (g.C.Parser.means c.args.self.now.2) in
+    let stands = ahead g.I.Rest.location g.I.Stream.remaining in
+    let is1 = c.in-This-This.is in
+    let is2 = c.in-This-This.field-0-is in
+    let known = This (This c.in-This-This.first) in
+    let turn : c.args.turn ≡ known = cc in
+    after-turn after (g.I.StreamIsPartial.expects_more c.args.input.now) (stands c.args.input.now) (Gives (c.in-This-This.first, c.in-Ok.second, c.in-Ok.third) (stands c.parse_next.new.input)) c.args.turn known turn
+    ((c.in-Ok.second, c.in-Ok.third), (refl, c.in-Ok.ensures.means))
+
+pub returns-in-Ok-parse_next-clause-means : goal.returns-in-Ok-parse_next-clause-means
+returns-in-Ok-parse_next-clause-means g c =
+    let after = AfterTurn3 g.E.ParserError.or_refusable g.E.ParserError.append_refusable (g.A.Parser.means c.args.self.now.0) (g.B.Parser.means c.args.self.now.1) (g.C.Parser.means c.args.self.now.2) in
+    let stands = ahead g.I.Rest.location g.I.Stream.remaining in
+    let is1 = c.in-This-Other.is in
+    let is2 = c.in-This-Other.field-0-is in
+    let known = This (Other c.in-This-Other.second) in
+    let turn : c.args.turn ≡ known = cc in
+    after-turn after (g.I.StreamIsPartial.expects_more c.args.input.now) (stands c.args.input.now) (Gives (c.in-Ok-parse_next.first, c.in-This-Other.second, c.in-Ok-parse_next.third) (stands c.parse_next-in-This-Other.new.input)) c.args.turn known turn
+    ((c.in-Ok-parse_next.first, c.in-Ok-parse_next.third), (refl, c.in-Ok-parse_next.ensures.means))
+
+pub returns-in-Ok-parse_next-2-clause-means : goal.returns-in-Ok-parse_next-2-clause-means
+returns-in-Ok-parse_next-2-clause-means g c =
+    let after = AfterTurn3 g.E.ParserError.or_refusable g.E.ParserError.append_refusable (g.A.Parser.means c.args.self.now.0) (g.B.Parser.means c.args.self.now.1) (g.C.Parser.means c.args.self.now.2) in
+    let stands = ahead g.I.Rest.location g.I.Stream.remaining in
+    let is1 = c.in-Other.is in
+    let known = Other c.in-Other.third in
+    let turn : c.args.turn ≡ known = cc in
+    after-turn after (g.I.StreamIsPartial.expects_more c.args.input.now) (stands c.args.input.now) (Gives (c.in-Ok-parse_next-2.first, c.in-Ok-parse_next-2.second, c.in-Other.third) (stands c.parse_next-in-Other.new.input)) c.args.turn known turn
+    ((c.in-Ok-parse_next-2.first, c.in-Ok-parse_next-2.second), (refl, c.in-Ok-parse_next-2.ensures.means))

@@ -1,0 +1,235 @@
+/* woldbraid.h: readers of formats over input that comes in pieces.
+ *
+ * A reader is made by a call `.._new`, and freed by `.._free`. Pieces of the input are pushed, in their order, and what they hold is read
+ * by `.._next`, until that says that more is needed. After the last piece, `.._end` says that no more follows, and `.._next` reads on to
+ * `WB_DONE`.
+ *
+ *     wb_json_reader *reader = wb_json_new(NULL);
+ *     wb_json_event event;
+ *     ..
+ *     wb_json_push(reader, piece, length);
+ *     while ((status = wb_json_next(reader, &event)) == WB_OK)
+ *         use(&event);
+ *     ..
+ *     wb_json_free(reader);
+ *
+ * Each call returns a status. What an event lends stays until the next call of its reader. There is no global state, so readers are
+ * independent, and each stays on the thread that made it. When memory is refused, a call says so, nothing is lost, and the same call may be
+ * made again. No call ends the program, waits or takes a lock.
+ *
+ * The code of the calls is proved up to its own boundary. A caller is trusted for this, which nothing checks: a reader was made by `.._new`
+ * or `.._of` and not freed; a pointer has as many bytes as the length says; a struct that is written has room. Memory comes from malloc,
+ * realloc and free, which are one allocator, and align a block to each power of two up to 16 that divides its size. No call is made in a
+ * signal handler, nor in the forked child of a process with threads.
+ */
+#ifndef WOLDBRAID_H
+#define WOLDBRAID_H
+
+#include <stdbool.h>
+#include <stddef.h>
+#include <stdint.h>
+
+#ifdef __cplusplus
+extern "C" {
+#endif
+
+/* What came of a call. */
+typedef uint32_t wb_status;
+
+/* The call did what it is for. */
+#define WB_OK UINT32_C(0)
+/* The input is read to its end. */
+#define WB_DONE UINT32_C(1)
+/* Bytes are awaited that were not pushed yet: push a piece, or end the input. */
+#define WB_NEEDS_MORE UINT32_C(2)
+/* Nothing was pushed: more bytes wait to be read than the limit `kept`. Read first. Where reading needs more, a token is too long. */
+#define WB_FULL UINT32_C(3)
+/* Nothing was pushed: the input has ended. */
+#define WB_ENDED UINT32_C(4)
+/* Nothing was pushed: the input would have 2^64 bytes or more. */
+#define WB_TOO_LONG UINT32_C(5)
+/* Memory was refused. Nothing is lost, and the same call may be made again. */
+#define WB_REFUSED UINT32_C(6)
+/* The input is damaged at a place. The reader stays there. */
+#define WB_DAMAGED UINT32_C(7)
+/* A token stands at a place where it may not. */
+#define WB_UNEXPECTED UINT32_C(8)
+/* A value stands at a place within more arrays and objects than the limit `depth`. */
+#define WB_TOO_DEEP UINT32_C(9)
+/* The input ends before the text does. */
+#define WB_ENDS_EARLY UINT32_C(10)
+/* The reader is that of another format. Nothing was done. */
+#define WB_OTHER_FORMAT UINT32_C(11)
+/* An argument is missing, or a length is above PTRDIFF_MAX. Nothing was done. */
+#define WB_MISUSED UINT32_C(100)
+
+/* Returns a status in a few words, in English. */
+const char *wb_status_text(wb_status status);
+
+/* ---- JSON (RFC 8259): one value, with blanks around it and nothing else */
+
+/* A reader of the events of a JSON text. */
+typedef struct wb_json_reader wb_json_reader;
+
+/* What a reader may keep. */
+typedef struct wb_json_limits {
+    /* Within how many arrays and objects a value may stand. A byte is kept for each that is open. */
+    size_t depth;
+    /* How many bytes may wait to be read when a piece is pushed. So at most as many are kept, and a piece. */
+    size_t kept;
+} wb_json_limits;
+
+/* The limits where none are passed. */
+#define WB_JSON_DEPTH ((size_t)512)
+#define WB_JSON_KEPT ((size_t)1 << 24)
+
+/* What kind of event it is. */
+#define WB_JSON_NONE UINT32_C(0)
+#define WB_JSON_START_ARRAY UINT32_C(1)
+#define WB_JSON_END_ARRAY UINT32_C(2)
+#define WB_JSON_START_OBJECT UINT32_C(3)
+#define WB_JSON_END_OBJECT UINT32_C(4)
+/* The name of a member, whose value comes next. */
+#define WB_JSON_KEY UINT32_C(5)
+#define WB_JSON_NULL UINT32_C(6)
+#define WB_JSON_FALSE UINT32_C(7)
+#define WB_JSON_TRUE UINT32_C(8)
+#define WB_JSON_NUMBER UINT32_C(9)
+#define WB_JSON_STRING UINT32_C(10)
+
+/* What is wrong where the input is damaged. */
+#define WB_JSON_WIDE_TEXT UINT32_C(1)
+#define WB_JSON_BYTE_ORDER_MARK UINT32_C(2)
+#define WB_JSON_COMMENT UINT32_C(3)
+#define WB_JSON_SINGLE_QUOTE UINT32_C(4)
+#define WB_JSON_OTHER_WORD UINT32_C(5)
+#define WB_JSON_NO_TOKEN UINT32_C(6)
+#define WB_JSON_LEADING_ZERO UINT32_C(7)
+#define WB_JSON_BAD_NUMBER UINT32_C(8)
+#define WB_JSON_BAD_ESCAPE UINT32_C(9)
+#define WB_JSON_LONE_SURROGATE UINT32_C(10)
+#define WB_JSON_CONTROL_CHARACTER UINT32_C(11)
+#define WB_JSON_BAD_UTF8 UINT32_C(12)
+
+/* An event, or why there is none. */
+typedef struct wb_json_event {
+    /* The kind of event: WB_JSON_NONE where there is none. */
+    uint32_t kind;
+    /* With WB_DAMAGED what is wrong, else 0. */
+    uint32_t cause;
+    /* The bytes of a name or a string, in UTF-8 and without escapes, or of a number as it is written. No zero follows them. */
+    const uint8_t *text;
+    /* How many these are; 0 for other events. */
+    size_t length;
+    /* The number, if `has_integer`, else 0. A fraction, an exponent or a larger number is for strtod, over a copy of the text. */
+    int64_t integer;
+    /* The place of an error, as an offset in bytes from the start of the input, else 0. */
+    size_t place;
+    /* Whether the number is an integer that an int64_t has, written without a fraction and an exponent. */
+    bool has_integer;
+} wb_json_event;
+
+/* Returns a reader, or NULL when memory is refused. Without limits, those above hold. */
+wb_json_reader *wb_json_new(const wb_json_limits *limits);
+
+/* Returns a reader of a whole text, to which the text was pushed and then the end; or NULL when memory is refused or the text is missing.
+ * The text is copied. */
+wb_json_reader *wb_json_of(const void *text, size_t length, const wb_json_limits *limits);
+
+/* Appends a piece to what waits to be read. Its bytes are copied. A piece of no bytes may have the address NULL. */
+wb_status wb_json_push(wb_json_reader *reader, const void *piece, size_t length);
+
+/* Notes that no more follows. */
+wb_status wb_json_end(wb_json_reader *reader);
+
+/* Reads the next event. With WB_OK there is one. After an error that names a place, each further call gives that error again. */
+wb_status wb_json_next(wb_json_reader *reader, wb_json_event *event);
+
+/* Returns how many bytes were pushed; 0 without a reader. */
+size_t wb_json_fed(wb_json_reader *reader);
+
+/* Returns how many bytes of the input are kept: those that wait to be read, and those that were read since the last piece. */
+size_t wb_json_held(wb_json_reader *reader);
+
+/* Returns how many arrays and objects are open. */
+size_t wb_json_level(wb_json_reader *reader);
+
+/* Frees a reader, or does nothing with NULL. */
+void wb_json_free(wb_json_reader *reader);
+
+/* Returns a cause in a few words, in English. */
+const char *wb_json_cause_text(uint32_t cause);
+
+/* ---- CSV (RFC 4180): records of fields, whose bytes are kept as they are. A byte order mark is a part of the first field. */
+
+/* A reader of records of comma-separated values. */
+typedef struct wb_csv_reader wb_csv_reader;
+
+/* What a reader may keep. */
+typedef struct wb_csv_limits {
+    /* How many bytes may wait to be read when a piece is pushed. So at most as many are kept, and a piece. */
+    size_t kept;
+} wb_csv_limits;
+
+/* The limit where none is passed. */
+#define WB_CSV_KEPT ((size_t)1 << 24)
+
+/* A record, or why there is none. */
+typedef struct wb_csv_record {
+    /* The bytes of the fields without quotes around them, one field after the other. No zero follows a field. */
+    const uint8_t *text;
+    /* The offsets in these bytes at which the fields end. */
+    const size_t *ends;
+    /* How many fields there are: 0 where there is no record, else at least 1. */
+    size_t count;
+    /* With WB_DAMAGED the place of the byte at which the record breaks off, as an offset in bytes from the start of the input, or the length of
+     * the input where a closing quote is missing; else 0. */
+    size_t place;
+} wb_csv_record;
+
+/* The bytes of a field. */
+typedef struct wb_csv_field {
+    const uint8_t *text;
+    size_t length;
+} wb_csv_field;
+
+/* Returns the field at an index below `count`. */
+static inline wb_csv_field wb_csv_field_at(const wb_csv_record *record, size_t index)
+{
+    size_t start = index == 0 ? 0 : record->ends[index - 1];
+    wb_csv_field field;
+    field.text = record->text + start;
+    field.length = record->ends[index] - start;
+    return field;
+}
+
+/* Returns a reader, or NULL when memory is refused. Without limits, that above holds. */
+wb_csv_reader *wb_csv_new(const wb_csv_limits *limits);
+
+/* Returns a reader of a whole text, to which the text was pushed and then the end; or NULL when memory is refused or the text is missing.
+ * The text is copied. */
+wb_csv_reader *wb_csv_of(const void *text, size_t length, const wb_csv_limits *limits);
+
+/* Appends a piece to what waits to be read. Its bytes are copied. A piece of no bytes may have the address NULL. */
+wb_status wb_csv_push(wb_csv_reader *reader, const void *piece, size_t length);
+
+/* Notes that no more follows. */
+wb_status wb_csv_end(wb_csv_reader *reader);
+
+/* Reads the next record. With WB_OK there is one. After WB_DAMAGED nothing is read, and each further call finds the same. */
+wb_status wb_csv_next(wb_csv_reader *reader, wb_csv_record *record);
+
+/* Returns how many bytes were pushed; 0 without a reader. */
+size_t wb_csv_fed(wb_csv_reader *reader);
+
+/* Returns how many bytes of the input are kept: those that wait to be read, and those that were read since the last piece. */
+size_t wb_csv_held(wb_csv_reader *reader);
+
+/* Frees a reader, or does nothing with NULL. */
+void wb_csv_free(wb_csv_reader *reader);
+
+#ifdef __cplusplus
+}
+#endif
+
+#endif
