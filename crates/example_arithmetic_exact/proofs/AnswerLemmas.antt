@@ -8,8 +8,8 @@ use Rattle.winnow_stream.specs.declared.needed.Needed.{Needed}
 use Rattle.winnow_parser.specs.Outcome.{Ahead, Backtracks, Gives, Fails}
 use Rattle.winnow_parser.specs.Meanings.{VerifyMaps}
 use Rattle.winnow_parser.specs.Answer.{outcome}
-use Rattle.winnow_parser.specs.declared.failure.Failure.{Failure}
-use Rattle.winnow_parser.specs.declared.failure.Failure.TheVariants.{Incomplete, Backtrack, Cut, Refused}
+use Rattle.winnow_error.specs.declared.failure.Failure.{Failure}
+use Rattle.winnow_error.specs.declared.failure.Failure.TheVariants.{Incomplete, Backtrack, Cut, Refused}
 use Rattle.winnow_exact.specs.Nested.{IsNested, IsParser-IsNested}
 use Rattle.example_arithmetic_exact.specs.Reading.{IsLongest, HasNone, IsAnswer}
 use Rattle.example_arithmetic_exact.specs.Grammar.{IsTextSlice, IsLayer, IsParser-IsLayer}

@@ -2,8 +2,8 @@
 use Rattle.std.specs.Prelude.{◌≡◌, ℕ, zero, suc, ◌<◌, ◌≤◌, Bool, true, List, [], ◌∷◌, ◌++◌, map, Result, Ok, Err, ⊤}
 use Rattle.winnow_stream.specs.Source.{Source}
 use Rattle.winnow_stream.specs.declared.needed.Needed.{Needed}
-use Rattle.winnow_parser.specs.declared.failure.Failure.{Failure}
-use Rattle.winnow_parser.specs.declared.failure.Failure.TheVariants.{Incomplete, Backtrack, Cut, Refused}
+use Rattle.winnow_error.specs.declared.failure.Failure.{Failure}
+use Rattle.winnow_error.specs.declared.failure.Failure.TheVariants.{Incomplete, Backtrack, Cut, Refused}
 use Rattle.example_nested.specs.Trees.{written, written_all, depth_of}
 use Rattle.example_nested.specs.declared.tree.Tree.{Tree}
 

@@ -1,8 +1,8 @@
 -- The answers of the reader of numbers, in the words of the format.
 use Rattle.std.specs.Prelude.{◌≡◌, ℕ, ◌≤◌, Bool, true, List, ◌++◌, length, Result, Ok, Err, ⊤}
 use Rattle.winnow_stream.specs.declared.needed.Needed.{Needed}
-use Rattle.winnow_parser.specs.declared.failure.Failure.{Failure}
-use Rattle.winnow_parser.specs.declared.failure.Failure.TheVariants.{Incomplete, Backtrack, Cut, Refused}
+use Rattle.winnow_error.specs.declared.failure.Failure.{Failure}
+use Rattle.winnow_error.specs.declared.failure.Failure.TheVariants.{Incomplete, Backtrack, Cut, Refused}
 use Rattle.format_lemmas.specs.Bytes.{Each, EndsRun}
 use Rattle.format_json_scalars.specs.Numbers.{IsNumber, is_number_byte}
 use Rattle.format_json_scalars.specs.Meanings.{IsNumberOf}

@@ -3,8 +3,8 @@ pub use Rattle.winnow_parser.specs.Outcome
 pub use Rattle.winnow_parser.specs.Answer
 pub use Rattle.winnow_parser.specs.Alone
 pub use Rattle.winnow_parser.specs.Errors
-pub use Rattle.winnow_parser.specs.Failures
-pub use Rattle.winnow_parser.specs.FailureText
+pub use Rattle.winnow_error.specs.Failures
+pub use Rattle.winnow_error.specs.FailureText
 pub use Rattle.winnow_parser.specs.Laws
 pub use Rattle.winnow_parser.specs.Meanings
 pub use Rattle.winnow_parser.specs.Parts
@@ -101,7 +101,7 @@ pub use Rattle.winnow_spelling.specs.SpelledRows
 pub use Rattle.winnow_spelling.specs.SpelledChoices
 pub use Rattle.winnow_iterator.specs.Iterating
 pub use Rattle.winnow_spans.specs.TokenSpan
-pub use Rattle.winnow_parser.specs.declared.failure.Failure
+pub use Rattle.winnow_error.specs.declared.failure.Failure
 pub use Rattle.winnow_expression.specs.Levels
 pub use Rattle.winnow_expression.specs.Powers
 pub use Rattle.winnow_expression.specs.Unary

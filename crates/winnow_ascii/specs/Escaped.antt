@@ -2,7 +2,7 @@
 use Rattle.std.specs.Prelude.{◌≡◌, ◌≢◌, ◌<◌, ◌≤◌, Bool, true, false, List, [], ◌∷◌, Option, Some, None, ◌⊎◌, ⊤}
 use Rattle.winnow_stream.specs.Source.{width}
 use Rattle.winnow_stream.specs.declared.needed.Needed.TheVariants.{Unknown}
-use Rattle.winnow_parser.specs.declared.failure.Failure.TheVariants.{Incomplete, Backtrack, Cut, Refused}
+use Rattle.winnow_error.specs.declared.failure.Failure.TheVariants.{Incomplete, Backtrack, Cut, Refused}
 use Rattle.winnow_parser.specs.Outcome.{Ahead, Backtracks, Needs, Outcome, Gives, Fails, Meaning}
 use Rattle.winnow_parser.specs.Errors.{Errors, NoError}
 use Rattle.winnow_parser.specs.Meanings.{IsPreceded, IsOpt}

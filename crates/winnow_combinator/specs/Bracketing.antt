@@ -1,6 +1,6 @@
 -- Three alternatives, bracketed in one way or the other.
 use Rattle.std.specs.Prelude.{◌≡◌, Bool}
-use Rattle.winnow_parser.specs.declared.failure.Failure.TheVariants.{Backtrack}
+use Rattle.winnow_error.specs.declared.failure.Failure.TheVariants.{Backtrack}
 use Rattle.winnow_parser.specs.Outcome.{Ahead, Outcome, Meaning}
 use Rattle.winnow_parser.specs.Errors.{Errors, FailsLeaving, AltErrors2}
 use Rattle.winnow_parser.specs.Meanings.{IsAlt2}

@@ -4,7 +4,8 @@ use Rattle.std.proofs.Common.{refl, ap, sym, subst, inl, inr, arith}
 use Rattle.winnow_stream.specs.Source.{Source}
 use Rattle.winnow_stream.specs.declared.needed.Needed.{Needed}
 use Rattle.winnow_parser.specs.Outcome.{Ahead, Failed, Backtracks, Needs, Gives, Fails, Meaning, Moves}
-use Rattle.winnow_parser.specs.Errors.{Errors, IsBacktrackOf}
+use Rattle.winnow_error.specs.Failures.{IsBacktrackOf}
+use Rattle.winnow_parser.specs.Errors.{Errors}
 use Rattle.winnow_parser.specs.Laws.{longer, failed_longer, IsSettled, FailsAfter, IsStable, IsFinal, IsOnward, IsParser}
 use Rattle.winnow_parser.specs.Parts.{Moves-still, LeavesAfter-on}
 use Rattle.winnow_combinator.specs.Appended.{Appending, IsParser-Appending}

@@ -30,7 +30,7 @@ ghost use Rattle.winnow_parser.specs.Rows.{Row3, Row4, Row5, Row6, Row7, Row8, R
 ghost use Rattle.winnow_combinator.specs.Alt.{IsAlt3, IsAlt4, IsAlt5, IsAlt6, IsAlt7, IsAlt8};
 ghost use Rattle.winnow_combinator.specs.Alt.{IsAlt9, IsAlt10};
 ghost use Rattle.winnow_combinator.specs.AltOf.{IsAltOfAll};
-ghost use Rattle.winnow_parser.specs.declared.failure.Failure.TheVariants.{Backtrack};
+ghost use Rattle.winnow_error.specs.declared.failure.Failure.TheVariants.{Backtrack};
 ghost use Rattle.winnow_parser.specs.Answer.{ahead};
 ghost use Rattle.winnow_parser.specs.Outcome.{Ahead};
 ghost use Rattle.winnow_combinator.specs.Bracketing.{MeansAlike, MeansAlikeGranted, AltOfTwo};

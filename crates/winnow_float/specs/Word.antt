@@ -2,7 +2,8 @@
 use Rattle.std.specs.Prelude.{◌≡◌, ◌⊎◌}
 use Rattle.std.proofs.Common.{ap, sym}
 use Rattle.winnow_parser.specs.Outcome.{Ahead, Backtracks, Cuts, Needs, Refuses, Gives, Fails, Meaning}
-use Rattle.winnow_parser.specs.Errors.{Errors, IsBacktrackOf}
+use Rattle.winnow_error.specs.Failures.{IsBacktrackOf}
+use Rattle.winnow_parser.specs.Errors.{Errors}
 use Rattle.winnow_parser.specs.Laws.{longer, IsStable, IsOnward, IsParser}
 use Rattle.winnow_parser.specs.Parts.{Moves-still}
 

@@ -1,7 +1,7 @@
 -- The steps of an iterator over the values of a parser.
 use Rattle.std.specs.Prelude.{◌≡◌, Bool, Option, Some, None, Result, Ok, Err, ⊤}
 use Rattle.winnow_stream.specs.declared.needed.Needed.{Needed}
-use Rattle.winnow_parser.specs.declared.failure.Failure.{Failure}
+use Rattle.winnow_error.specs.declared.failure.Failure.{Failure}
 use Rattle.winnow_parser.specs.Outcome.{Ahead, Gives, Fails, Meaning}
 use Rattle.winnow_parser.specs.Answer.{failed}
 use Rattle.winnow_parser.specs.Errors.{Errors}

@@ -1,8 +1,8 @@
 -- Which error of its record a record with a limit carries.
 use Rattle.std.specs.Prelude.{◌≡◌, ℕ, Bool, List, take, ⊤}
 use Rattle.winnow_stream.specs.declared.needed.Needed.{Needed}
-use Rattle.winnow_parser.specs.declared.failure.Failure.{Failure}
-use Rattle.winnow_parser.specs.declared.failure.Failure.TheVariants.{Incomplete, Backtrack, Cut, Refused}
+use Rattle.winnow_error.specs.declared.failure.Failure.{Failure}
+use Rattle.winnow_error.specs.declared.failure.Failure.TheVariants.{Incomplete, Backtrack, Cut, Refused}
 use Rattle.winnow_parser.specs.Outcome.{Ahead}
 use Rattle.winnow_parser.specs.Errors.{Errors}
 use Rattle.winnow_reader.specs.Place.{bytes_at}

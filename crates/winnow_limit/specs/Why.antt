@@ -1,8 +1,8 @@
 -- Which error a record with a limit fails with.
 use Rattle.std.specs.Prelude.{ℕ, Bool, Result, Ok, Err, ⊤}
 use Rattle.winnow_stream.specs.declared.needed.Needed.{Needed}
-use Rattle.winnow_parser.specs.declared.failure.Failure.{Failure}
-use Rattle.winnow_parser.specs.declared.failure.Failure.TheVariants.{Incomplete, Backtrack, Cut, Refused}
+use Rattle.winnow_error.specs.declared.failure.Failure.{Failure}
+use Rattle.winnow_error.specs.declared.failure.Failure.TheVariants.{Incomplete, Backtrack, Cut, Refused}
 use Rattle.winnow_parser.specs.Outcome.{Ahead, Cuts, Fails, Meaning}
 use Rattle.winnow_limit.specs.declared.limit.LimitedError.{LimitedError}
 use Rattle.winnow_limit.specs.declared.limit.LimitedError.TheVariants.{TooLong, Failed}

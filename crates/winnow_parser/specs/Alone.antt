@@ -2,7 +2,7 @@
 use Rattle.std.specs.Prelude.{◌≡◌, false, Result, ◌⊎◌}
 use Rattle.std.proofs.Common.{ap, inl, inr}
 use Rattle.winnow_stream.specs.declared.needed.Needed.{Needed}
-use Rattle.winnow_parser.specs.declared.failure.Failure.{Failure}
+use Rattle.winnow_error.specs.declared.failure.Failure.{Failure}
 use Rattle.winnow_parser.specs.Outcome.{Ahead, Backtracks, Cuts, Needs, Refuses, Gives, Fails, Meaning}
 use Rattle.winnow_parser.specs.Answer.{outcome}
 use Rattle.winnow_parser.specs.Errors.{Errors, FailsLeaving}

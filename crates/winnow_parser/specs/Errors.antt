@@ -5,8 +5,9 @@ use Rattle.std.specs.Fn.{Shared}
 use Rattle.std.specs.Borrow.{MutBor}
 use Rattle.std.specs.declared.alloc.Global.{Global}
 use Rattle.winnow_stream.specs.declared.needed.Needed.{Needed}
-use Rattle.winnow_parser.specs.declared.failure.Failure.{Failure}
-use Rattle.winnow_parser.specs.declared.failure.Failure.TheVariants.{Incomplete, Backtrack, Cut, Refused}
+use Rattle.winnow_error.specs.declared.failure.Failure.{Failure}
+use Rattle.winnow_error.specs.declared.failure.Failure.TheVariants.{Incomplete, Backtrack, Cut, Refused}
+use Rattle.winnow_error.specs.Failures.{IsBacktrackOf}
 use Rattle.winnow_parser.specs.Outcome.{Ahead, Gives, Fails, Meaning}
 use Rattle.winnow_parser.specs.Answer.{failed}
 
@@ -46,13 +47,6 @@ abbrev pub FlatMapErrors : {O Q E S T : Type 0} → (O → Q → Type 0) → (Q 
     → Meaning O T → Errors E S T → Errors E S T
 FlatMapErrors {O} {Q} {E} {S} {T} makes errors means first partial a s failure = first partial a s failure
     ⊎ ((x : O) × ((b : Ahead T) × ((q : Q) × (means partial a (Gives x b) × makes x q × errors q partial b s failure))))
-
--- the failure is a backtrack whose error is one of these
-abbrev pub IsBacktrackOf : {E : Type 0} → (E → Type 0) → Failure E Needed → Type 0
-IsBacktrackOf errors (Backtrack e) = errors e
-IsBacktrackOf errors (Cut e) = ⊥
-IsBacktrackOf errors (Incomplete n) = ⊥
-IsBacktrackOf errors (Refused r) = ⊥
 
 -- the errors of the inner parser; or it gave an unwanted value, and this one backtracks with an
 -- error that is made of that value

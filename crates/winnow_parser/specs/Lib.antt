@@ -2,8 +2,6 @@ pub mod Outcome
 pub mod Answer
 pub mod Alone
 pub mod Errors
-pub mod Failures
-pub mod FailureText
 pub mod Laws
 pub mod Meanings
 pub mod Parts

@@ -1,7 +1,7 @@
 -- What a parser reads of a whole input.
 use Rattle.std.specs.Prelude.{◌≡◌, ◌≢◌, ℕ, ◌-◌, false, [], ◌⊎◌}
 use Rattle.winnow_stream.specs.Source.{width}
-use Rattle.winnow_parser.specs.declared.failure.Failure.TheVariants.{Backtrack, Cut}
+use Rattle.winnow_error.specs.declared.failure.Failure.TheVariants.{Backtrack, Cut}
 use Rattle.winnow_parser.specs.Outcome.{Ahead, Backtracks, Cuts, Gives, Fails, Meaning}
 use Rattle.winnow_parser.specs.Errors.{Errors}
 

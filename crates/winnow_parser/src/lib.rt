@@ -8,17 +8,16 @@
 #![tactic(auto, using(crate::proofs::lemmas::OnwardLemmas::onward_steps))]
 
 mod by_ref;
-mod failure;
 mod functions;
 mod laws;
 mod parser;
 mod parsers;
+mod results;
 mod sequences;
 mod sequences_to_ten;
 mod value_test;
 mod whole;
 
-pub use failure::{Failure, ModalResult, WholeResult};
 pub use functions::literal;
 pub use laws::{
     determined_function_law, determined_law, determined_pair_law, determined_reading_law,
@@ -45,4 +44,6 @@ pub use parsers::verify_map::VerifyMap;
 pub use parsers::void::Void;
 pub use parsers::with_span::WithSpan;
 pub use parsers::with_taken::WithTaken;
+pub use results::{ModalResult, WholeResult};
 pub use value_test::{ByBorrow, ByValue, ValueTest};
+pub use winnow_error::Failure;

@@ -3,8 +3,8 @@ use Rattle.std.specs.Prelude.{◌≡◌, ℕ, Bool, true, false, not, List, Resu
 use Rattle.std.specs.Borrow.{Bor}
 use Rattle.winnow_stream.specs.declared.needed.Needed.{Needed}
 use Rattle.winnow_stream.specs.declared.stream.Rest.{Ghosts}
-use Rattle.winnow_parser.specs.declared.failure.Failure.{Failure}
-use Rattle.winnow_parser.specs.declared.failure.Failure.TheVariants.{Backtrack, Cut}
+use Rattle.winnow_error.specs.declared.failure.Failure.{Failure}
+use Rattle.winnow_error.specs.declared.failure.Failure.TheVariants.{Backtrack, Cut}
 use Rattle.winnow_parser.specs.Outcome.{Ahead}
 use Rattle.winnow_parser.specs.Errors.{Errors}
 use Rattle.winnow_wrap.specs.declared.located.LocatingSlice.{LocatingSlice}

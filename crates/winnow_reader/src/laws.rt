@@ -23,7 +23,7 @@ ghost use Rattle.winnow_reader.specs.Skips.{skipped, SkipsTo};
 ghost use Rattle.winnow_reader.specs.SameValues.{AreFronts, AreAlike, IsThrough};
 ghost use Rattle.winnow_reader.specs.InUtf8.{InUtf8, text_in, past_text, is_damaged, MeetsDamage};
 ghost use Rattle.winnow_stream.specs.declared.needed.Needed.{Needed};
-ghost use Rattle.winnow_parser.specs.declared.failure.Failure.{Failure};
+ghost use Rattle.winnow_error.specs.declared.failure.Failure.{Failure};
 ghost use Rattle.winnow_reader.specs.declared.utf8_record.TextError.{TextError};
 ghost use Rattle.winnow_reader.specs.TextTelling.{TellsDamage, IsDamageIfTold};
 

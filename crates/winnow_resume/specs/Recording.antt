@@ -1,8 +1,8 @@
 -- What a parser with a recovery records: one error for each failure that is skipped.
 use Rattle.std.specs.Prelude.{◌≡◌, Bool, ◌⊎◌}
 use Rattle.winnow_stream.specs.declared.needed.Needed.{Needed}
-use Rattle.winnow_parser.specs.declared.failure.Failure.{Failure}
-use Rattle.winnow_parser.specs.declared.failure.Failure.TheVariants.{Backtrack, Cut}
+use Rattle.winnow_error.specs.declared.failure.Failure.{Failure}
+use Rattle.winnow_error.specs.declared.failure.Failure.TheVariants.{Backtrack, Cut}
 use Rattle.winnow_parser.specs.Outcome.{Ahead, Gives, Fails, Meaning}
 use Rattle.winnow_parser.specs.Answer.{failed}
 use Rattle.winnow_parser.specs.Errors.{Errors}

@@ -8,7 +8,7 @@ use Rattle.std.proofs.lemmas.List.{map-append}
 use Rattle.winnow_stream.specs.Source.{Source, units}
 use Rattle.winnow_stream.specs.Text.{char_source, text_source}
 use Rattle.winnow_stream.specs.declared.needed.Needed.{Needed}
-use Rattle.winnow_parser.specs.declared.failure.Failure.{Failure}
+use Rattle.winnow_error.specs.declared.failure.Failure.{Failure}
 use Rattle.winnow_parser.specs.Answer.{outcome}
 use Rattle.winnow_parser.specs.Outcome.{Ahead}
 use Rattle.winnow_spelling.specs.Spelling.{Spelling, IsWithin, tokens_of, TakesFor}

@@ -12,8 +12,8 @@ use Rattle.winnow_stream.proofs.lemmas.FrontLemmas.{width-append}
 use Rattle.winnow_parser.specs.Outcome.{Ahead, Failed, Backtracks, Cuts, Needs, Refuses, Gives, Fails, Meaning}
 use Rattle.winnow_parser.specs.Meanings.{Returns}
 use Rattle.winnow_parser.specs.Answer.{outcome}
-use Rattle.winnow_parser.specs.declared.failure.Failure.{Failure}
-use Rattle.winnow_parser.specs.declared.failure.Failure.TheVariants.{Incomplete, Backtrack, Cut, Refused}
+use Rattle.winnow_error.specs.declared.failure.Failure.{Failure}
+use Rattle.winnow_error.specs.declared.failure.Failure.TheVariants.{Incomplete, Backtrack, Cut, Refused}
 use Rattle.winnow_token.specs.OneOf.{IsOneOf}
 use Rattle.winnow_combinator.specs.Repeat.{Taking, InTurn, OneMore}
 use Rattle.example_nested.specs.Trees.{branches_of, written, written_all, above_all, depth_of}

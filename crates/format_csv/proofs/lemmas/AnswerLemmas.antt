@@ -9,8 +9,8 @@ use Rattle.winnow_stream.specs.Units.{HasPositiveWidths-units}
 use Rattle.winnow_stream.specs.Longer.{SlicesStay}
 use Rattle.winnow_stream.specs.SliceBytes.{SlicesHaveBytes}
 use Rattle.winnow_stream.specs.declared.needed.Needed.{Needed}
-use Rattle.winnow_parser.specs.declared.failure.Failure.{Failure}
-use Rattle.winnow_parser.specs.declared.failure.Failure.TheVariants.{Incomplete, Backtrack, Cut, Refused}
+use Rattle.winnow_error.specs.declared.failure.Failure.{Failure}
+use Rattle.winnow_error.specs.declared.failure.Failure.TheVariants.{Incomplete, Backtrack, Cut, Refused}
 use Rattle.winnow_parser.specs.Outcome.{Ahead, Failed, Backtracks, Cuts, Needs, Refuses, Gives, Fails}
 use Rattle.winnow_parser.specs.Laws.{longer}
 use Rattle.winnow_parser.specs.Answer.{outcome}

@@ -8,8 +8,8 @@ use Rattle.winnow_stream.specs.Units.{width-units, HasPositiveWidths-units}
 use Rattle.winnow_stream.specs.SliceBytes.{SlicesHaveBytes}
 use Rattle.winnow_stream.proofs.lemmas.FrontLemmas.{width-append}
 use Rattle.winnow_stream.specs.declared.needed.Needed.{Needed}
-use Rattle.winnow_parser.specs.declared.failure.Failure.{Failure}
-use Rattle.winnow_parser.specs.declared.failure.Failure.TheVariants.{Backtrack, Cut}
+use Rattle.winnow_error.specs.declared.failure.Failure.{Failure}
+use Rattle.winnow_error.specs.declared.failure.Failure.TheVariants.{Backtrack, Cut}
 use Rattle.winnow_parser.specs.Outcome.{Ahead, Backtracks, Cuts, Gives, Fails, Moves}
 use Rattle.winnow_parser.specs.Laws.{IsParser}
 use Rattle.winnow.specs.Place.{bytes_at, IsByteSlice, SlicesStay-bytes}

@@ -6,8 +6,8 @@ use Rattle.std.proofs.lemmas.Bool.Decides.{nat_tests}
 use Rattle.winnow_stream.specs.Source.{Source, HasPositiveWidths}
 use Rattle.winnow_stream.specs.SliceBytes.{SlicesHaveBytes}
 use Rattle.winnow_stream.specs.declared.needed.Needed.{Needed}
-use Rattle.winnow_parser.specs.declared.failure.Failure.{Failure}
-use Rattle.winnow_parser.specs.declared.failure.Failure.TheVariants.{Incomplete, Backtrack, Cut, Refused}
+use Rattle.winnow_error.specs.declared.failure.Failure.{Failure}
+use Rattle.winnow_error.specs.declared.failure.Failure.TheVariants.{Incomplete, Backtrack, Cut, Refused}
 use Rattle.winnow_parser.specs.Outcome.{Ahead, Backtracks, Cuts, Needs}
 use Rattle.winnow_parser.specs.Answer.{outcome}
 use Rattle.format_lemmas.specs.Bytes.{Each, bytes_of}

@@ -9,8 +9,8 @@ use Rattle.winnow_stream.specs.declared.needed.Needed.{Needed}
 use Rattle.winnow_parser.specs.Outcome.{Ahead, Failed, Backtracks, Cuts, Needs, Refuses, Gives, Fails, Meaning}
 use Rattle.winnow_parser.specs.Laws.{longer, failed_longer, IsDecided}
 use Rattle.winnow_parser.specs.Answer.{outcome}
-use Rattle.winnow_parser.specs.declared.failure.Failure.{Failure}
-use Rattle.winnow_parser.specs.declared.failure.Failure.TheVariants.{Incomplete, Backtrack, Cut, Refused}
+use Rattle.winnow_error.specs.declared.failure.Failure.{Failure}
+use Rattle.winnow_error.specs.declared.failure.Failure.TheVariants.{Incomplete, Backtrack, Cut, Refused}
 use Rattle.winnow_token.specs.OneOf.{IsOneOf}
 use Rattle.winnow_combinator.specs.Ending.{IsFail}
 use Rattle.format_lemmas.proofs.lemmas.TokenLemmas.{itself}

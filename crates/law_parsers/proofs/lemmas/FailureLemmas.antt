@@ -3,8 +3,8 @@ use Rattle.std.specs.Prelude.{Bool, true, false, [], ◌∷◌, IfSome}
 use Rattle.std.proofs.Common.{◌≡◌, refl, inl, inr, true≢false}
 use Rattle.winnow_stream.specs.Source.{Source, first_token}
 use Rattle.winnow_stream.specs.declared.needed.Needed.{Needed}
-use Rattle.winnow_parser.specs.declared.failure.Failure.{Failure}
-use Rattle.winnow_parser.specs.declared.failure.Failure.TheVariants.{Incomplete, Backtrack, Cut, Refused}
+use Rattle.winnow_error.specs.declared.failure.Failure.{Failure}
+use Rattle.winnow_error.specs.declared.failure.Failure.TheVariants.{Incomplete, Backtrack, Cut, Refused}
 use Rattle.winnow_parser.specs.Outcome.{Ahead, Meaning}
 use Rattle.winnow_parser.specs.Meanings.{BacktracksErr}
 use Rattle.winnow_parser.specs.Errors.{OwnErrors, PairErrors, AltErrors2, CutErrors, BacktrackErrors, ContextErrors, FailsLeaving}

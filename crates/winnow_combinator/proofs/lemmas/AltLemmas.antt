@@ -1,7 +1,7 @@
 -- Alternatives mean the same, however they are bracketed.
 use Rattle.std.specs.Prelude.{◌≡◌, Bool, ◌⊎◌}
 use Rattle.std.proofs.Common.{ap, sym, ◌∙◌, subst, inl, inr}
-use Rattle.winnow_parser.specs.declared.failure.Failure.TheVariants.{Backtrack}
+use Rattle.winnow_error.specs.declared.failure.Failure.TheVariants.{Backtrack}
 use Rattle.winnow_parser.specs.Outcome.{Ahead, Backtracks, Cuts, Needs, Refuses, Outcome, Gives, Fails, Meaning}
 use Rattle.winnow_parser.specs.Errors.{Errors, AltErrors2}
 use Rattle.winnow_parser.specs.Meanings.{IsAlt2}

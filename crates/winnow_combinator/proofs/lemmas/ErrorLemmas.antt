@@ -3,7 +3,7 @@ use Rattle.std.specs.Prelude.{Bool, List, Result, IfErr}
 use Rattle.std.proofs.Common.{inl, inr}
 use Rattle.std.proofs.lemmas.Result.{IfErr-weaker}
 use Rattle.winnow_stream.specs.declared.needed.Needed.{Needed}
-use Rattle.winnow_parser.specs.declared.failure.Failure.{Failure}
+use Rattle.winnow_error.specs.declared.failure.Failure.{Failure}
 use Rattle.winnow_parser.specs.Outcome.{Ahead, Gives, Meaning}
 use Rattle.winnow_parser.specs.Errors.{Errors, PairErrors}
 use Rattle.winnow_combinator.specs.Misuse.{GatheredErrors}

@@ -2,7 +2,7 @@
 use Rattle.std.specs.Prelude.{◌≡◌, ℕ, ◌≤◌, Bool, List, [], ◌∷◌, ◌++◌, length, Option, Some, None}
 use Rattle.std.proofs.Common.{refl, sym, subst, inl, inr, arith}
 use Rattle.winnow_stream.specs.declared.needed.Needed.{Needed}
-use Rattle.winnow_parser.specs.declared.failure.Failure.{Failure}
+use Rattle.winnow_error.specs.declared.failure.Failure.{Failure}
 use Rattle.winnow_parser.specs.Outcome.{Ahead, Failed, Gives, Fails, Meaning}
 use Rattle.winnow_parser.specs.Errors.{Errors}
 use Rattle.winnow_combinator.specs.Misuse.{GatheredErrors}

@@ -1,8 +1,8 @@
 -- The errors of a float's parts are made of the stream as it is left.
 use Rattle.std.proofs.Common.{inl, inr}
 use Rattle.winnow_stream.specs.declared.needed.Needed.{Needed}
-use Rattle.winnow_parser.specs.declared.failure.Failure.{Failure}
-use Rattle.winnow_parser.specs.declared.failure.Failure.TheVariants.{Incomplete, Backtrack, Cut, Refused}
+use Rattle.winnow_error.specs.declared.failure.Failure.{Failure}
+use Rattle.winnow_error.specs.declared.failure.Failure.TheVariants.{Incomplete, Backtrack, Cut, Refused}
 use Rattle.winnow_parser.specs.Outcome.{Ahead, Meaning}
 use Rattle.winnow_parser.specs.Errors.{Errors, OwnErrors, NoError, PairErrors}
 use Rattle.winnow_float.specs.IfNext.{IfNextErrors}

@@ -9,7 +9,7 @@ use Rattle.winnow_stream.specs.Units.{width-units}
 use Rattle.winnow_stream.proofs.lemmas.UnitLemmas.{width-take_units, length-units}
 use Rattle.winnow_parser.specs.Outcome.{Ahead, Outcome, Meaning, Moves}
 use Rattle.winnow_stream.specs.declared.needed.Needed.{Needed}
-use Rattle.winnow_parser.specs.declared.failure.Failure.{Failure}
+use Rattle.winnow_error.specs.declared.failure.Failure.{Failure}
 use Rattle.winnow_parser.specs.Errors.{Errors}
 use Rattle.winnow_reader.specs.Place.{bytes_at}
 use Rattle.winnow_reader.specs.InUtf8.{past}

@@ -1,8 +1,8 @@
 -- What a reader tells of an error is what its record told.
 use Rattle.std.specs.Prelude.{ℕ, Bool, List, Result, Ok, Err, IfErr}
 use Rattle.winnow_stream.specs.declared.needed.Needed.{Needed}
-use Rattle.winnow_parser.specs.declared.failure.Failure.{Failure}
-use Rattle.winnow_parser.specs.declared.failure.Failure.TheVariants.{Incomplete, Backtrack, Cut, Refused}
+use Rattle.winnow_error.specs.declared.failure.Failure.{Failure}
+use Rattle.winnow_error.specs.declared.failure.Failure.TheVariants.{Incomplete, Backtrack, Cut, Refused}
 use Rattle.winnow_parser.specs.Outcome.{Ahead, Backtracks, Cuts, Needs, Fails, Meaning}
 use Rattle.winnow_parser.specs.Determined.{IsDetermined}
 use Rattle.winnow_parser.specs.Errors.{Errors}

@@ -13,8 +13,8 @@ use Rattle.winnow_stream.proofs.lemmas.UnitLemmas.{count_to-units, width-take_un
 use Rattle.winnow_stream.specs.Source.{Source}
 use Rattle.winnow_stream.specs.declared.needed.Needed.{Needed}
 use Rattle.winnow_stream.proofs.lemmas.UnitLemmas.{length-units}
-use Rattle.winnow_parser.specs.declared.failure.Failure.{Failure}
-use Rattle.winnow_parser.specs.declared.failure.Failure.TheVariants.{Incomplete, Backtrack, Cut, Refused}
+use Rattle.winnow_error.specs.declared.failure.Failure.{Failure}
+use Rattle.winnow_error.specs.declared.failure.Failure.TheVariants.{Incomplete, Backtrack, Cut, Refused}
 use Rattle.winnow_parser.specs.Answer.{outcome}
 use Rattle.winnow_parser.specs.Laws.{longer, outcome_longer, IsSettled, IsParser}
 use Rattle.winnow_parser.specs.Outcome.{Ahead, Outcome, Meaning}

@@ -6,7 +6,7 @@ use Rattle.winnow_parser.specs.Outcome.{Gives, Fails, Backtracks, Cuts, Needs, R
 use Rattle.winnow_parser.specs.Answer.{failed}
 use Rattle.winnow_wrap.specs.Flag.{flag, partial_inner}
 use Rattle.winnow_wrap.specs.Located.{locating_inner, location_of}
-use Rattle.winnow_parser.specs.declared.failure.Failure.TheVariants.{Backtrack, Cut}
+use Rattle.winnow_error.specs.declared.failure.Failure.TheVariants.{Backtrack, Cut}
 use Rattle.winnow_reader.specs.Place.{stands, bytes_at}
 use Rattle.winnow_reader.specs.Wanted.{size_of}
 use Rattle.winnow_reader.specs.First.{first_ahead, goes_on}

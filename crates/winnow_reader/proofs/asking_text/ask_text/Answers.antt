@@ -3,7 +3,7 @@ use Rattle.winnow_stream.specs.Shortage.{needed}
 use Rattle.winnow_parser.specs.Outcome.{Gives, Fails, Backtracks, Cuts, Needs, Refuses}
 use Rattle.winnow_parser.specs.Answer.{failed}
 use Rattle.winnow_wrap.specs.Flag.{flag}
-use Rattle.winnow_parser.specs.declared.failure.Failure.TheVariants.{Backtrack, Cut}
+use Rattle.winnow_error.specs.declared.failure.Failure.TheVariants.{Backtrack, Cut}
 use Rattle.winnow_reader.specs.TextPlace.{stands_text}
 use Rattle.winnow_reader.specs.Wanted.{size_of}
 use Rattle.winnow_reader.proofs.lemmas.Utf8Lemmas.{answers-of, told-of-text, left-of, damage-place, damage-of, following-of}

@@ -1,5 +1,5 @@
 use Rattle.std.proofs.Common.{inl, inr, subst}
-use Rattle.winnow_parser.specs.declared.failure.Failure.TheVariants.{Cut}
+use Rattle.winnow_error.specs.declared.failure.Failure.TheVariants.{Cut}
 use Rattle.winnow_parser.specs.Outcome.{Fails}
 use Rattle.winnow_parser.specs.Answer.{ahead, failed}
 use Rattle.winnow_resume.specs.Recording.{FailsAs}

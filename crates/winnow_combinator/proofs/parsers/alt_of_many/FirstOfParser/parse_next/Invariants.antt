@@ -1,5 +1,5 @@
 use Rattle.std.specs.Prelude.{◌≡◌, List, ◌++◌, length, All}
-use Rattle.winnow_parser.specs.declared.failure.Failure.TheVariants.{Backtrack}
+use Rattle.winnow_error.specs.declared.failure.Failure.TheVariants.{Backtrack}
 use Rattle.winnow_parser.specs.Outcome.{Backtracks, Fails, Moves}
 use Rattle.winnow_parser.specs.Answer.{ahead}
 use Rattle.winnow_combinator.specs.AltOf.{IsAltOf, AltErrorsOf}

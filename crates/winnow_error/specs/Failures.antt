@@ -4,9 +4,8 @@ use Rattle.std.specs.declared.alloc.AllocError.{AllocError}
 use Rattle.winnow_stream.specs.declared.needed.Needed.{Needed}
 use Rattle.winnow_error.specs.declared.mode.ErrMode.TheVariants as modal
 use Rattle.winnow_error.specs.Mode.{Mode}
-use Rattle.winnow_parser.specs.declared.failure.Failure.{Failure}
-use Rattle.winnow_parser.specs.declared.failure.Failure.TheVariants.{Incomplete, Backtrack, Cut, Refused}
-use Rattle.winnow_parser.specs.Errors.{IsBacktrackOf}
+use Rattle.winnow_error.specs.declared.failure.Failure.{Failure}
+use Rattle.winnow_error.specs.declared.failure.Failure.TheVariants.{Incomplete, Backtrack, Cut, Refused}
 
 -- another parser may be tried after the failure
 abbrev pub failure_backtracks : {E : Type 0} → Failure E Needed → Bool
@@ -49,6 +48,13 @@ IfCarries (Backtrack e) P = P e
 IfCarries (Cut e) P = P e
 IfCarries (Incomplete n) P = ⊤
 IfCarries (Refused r) P = ⊤
+
+-- the failure is a backtrack whose error is one of these
+abbrev pub IsBacktrackOf : {E : Type 0} → (E → Type 0) → Failure E Needed → Type 0
+IsBacktrackOf errors (Backtrack e) = errors e
+IsBacktrackOf errors (Cut e) = ⊥
+IsBacktrackOf errors (Incomplete n) = ⊥
+IsBacktrackOf errors (Refused r) = ⊥
 
 -- the failure is a cut whose error is one of these
 abbrev pub IsCutOf : {E : Type 0} → (E → Type 0) → Failure E Needed → Type 0

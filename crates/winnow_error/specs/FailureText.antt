@@ -3,8 +3,8 @@ use Rattle.std.specs.Prelude.{ℕ, List, Option, Some, codes}
 use Rattle.std.specs.Fmt.{◌++?◌}
 use Rattle.winnow_stream.specs.declared.needed.Needed.{Needed}
 use Rattle.winnow_error.specs.ModeText.{needed_text}
-use Rattle.winnow_parser.specs.declared.failure.Failure.{Failure}
-use Rattle.winnow_parser.specs.declared.failure.Failure.TheVariants.{Incomplete, Backtrack, Cut, Refused}
+use Rattle.winnow_error.specs.declared.failure.Failure.{Failure}
+use Rattle.winnow_error.specs.declared.failure.Failure.TheVariants.{Incomplete, Backtrack, Cut, Refused}
 
 -- the text that an error with the same mode has; or that memory was refused
 abbrev pub failure_text : {E : Type 0} → (E → Option (List ℕ)) → Failure E Needed → Option (List ℕ)

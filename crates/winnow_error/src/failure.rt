@@ -1,15 +1,16 @@
-//! `Failure`, the result of a parser that has no value, `ModalResult` and `WholeResult`.
+//! `Failure`, why a parser has no value.
 
 ghost use Rattle.std.specs.Prelude.{◌≡◌, is_some};
-ghost use Rattle.winnow_parser.specs.declared.failure.Failure.TheVariants.{Refused};
-ghost use Rattle.winnow_parser.specs.Failures.{failure_backtracks, failure_needs, failure_cut};
-ghost use Rattle.winnow_parser.specs.Failures.{failure_backtrack, failure_inner, failure_of};
-ghost use Rattle.winnow_parser.specs.Failures.{mode_of, IfCarries, FailureMaps};
-ghost use Rattle.winnow_parser.specs.FailureText.{failure_text};
+ghost use Rattle.winnow_error.specs.declared.failure.Failure.TheVariants.{Refused};
+ghost use Rattle.winnow_error.specs.Failures.{failure_backtracks, failure_needs, failure_cut};
+ghost use Rattle.winnow_error.specs.Failures.{failure_backtrack, failure_inner, failure_of};
+ghost use Rattle.winnow_error.specs.Failures.{mode_of, IfCarries, FailureMaps};
+ghost use Rattle.winnow_error.specs.FailureText.{failure_text};
 
+use crate::bare::write_bare;
+use crate::mode::ErrMode;
 use std::alloc::AllocError;
 use std::fmt;
-use winnow_error::{ErrMode, write_bare};
 use winnow_stream::Needed;
 
 /// Why a parser has no value.
@@ -28,13 +29,6 @@ pub enum Failure<E, N = Needed> {
     /// Memory was refused, and nothing is known of the input
     Refused(AllocError),
 }
-
-/// What a parser answers: a value, or why there is none.
-pub type ModalResult<O, E> = Result<O, Failure<E>>;
-
-/// What comes of a whole input: a value, or the inner error, which says what is wrong with the
-/// input. The outer error is refused memory, after which nothing is known of the input.
-pub type WholeResult<O, E> = Result<Result<O, E>, AllocError>;
 
 impl<E> Failure<E> {
     /// Returns whether another parser may be tried.
