@@ -20,7 +20,7 @@ TOP = os.path.dirname(os.path.dirname(os.path.realpath(__file__)))
 REFUSING = ("AllocError", "RecordError", "RowError", "ReadError", "ModalResult", "WholeResult", "Unread", "Unwritten", "EventError")
 
 # The sources that make an `AllocError`: of more separators than a `usize` counts, and of the want of memory that `hex` and a record of an error tell of.
-MADE = {"winnow_combinator/src/parsers/separated.rt", "winnow_resume/src/following.rt", "winnow_script_text/src/literals.rt"}
+MADE = {"winnow_combinator/src/parsers/separated.rt", "winnow_resume/src/following.rt", "winnow_script_lines/src/literals.rt"}
 
 # The formats that are made of formats, and the functions that write several.
 OF_PARTS = r"\bFormat\s+for (\(|&|(After|AtMost|ByCode|EnumOf|OneValue|Struct|Tagged|Then|WithinCount)<)"

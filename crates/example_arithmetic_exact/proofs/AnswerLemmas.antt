@@ -14,7 +14,7 @@ use Rattle.winnow_exact.specs.Nested.{IsNested, IsParser-IsNested}
 use Rattle.example_arithmetic_exact.specs.Reading.{IsLongest, HasNone, IsAnswer}
 use Rattle.example_arithmetic_exact.specs.Grammar.{IsTextSlice, IsLayer, IsParser-IsLayer}
 use Rattle.example_arithmetic_exact.proofs.ExpressionLemmas.{reads-nested}
-use Rattle.winnow_spelling.specs.Spelling.{tokens_of}
+use Rattle.winnow_grammar.specs.Spelling.{tokens_of}
 
 -- the characters of a source of characters
 text-chars : (cs : List ℕ) → tokens_of (char_source cs) ≡ cs

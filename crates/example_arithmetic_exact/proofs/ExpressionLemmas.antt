@@ -12,8 +12,8 @@ use Rattle.winnow_ascii.specs.Classes.{is_ascii_multispace}
 use Rattle.example_arithmetic_exact.specs.Steps.{OfBoth, Adds, Multiplies}
 use Rattle.example_arithmetic_exact.specs.Expressions.{is_sum_sign, is_product_sign, WritesNumber, Expression, Term, Factor, Core, Writes, term, sum, factor, product, spaced, number, parens}
 use Rattle.example_arithmetic_exact.specs.Grammar.{IsTextSlice, Blanks, Parens, Cores, Factors, Terms, IsLayer}
-use Rattle.winnow_spelling.specs.Spelling.{Spelling}
-use Rattle.winnow_spelling.specs.Spellings.{AreHeld, OneToken, Then}
+use Rattle.winnow_grammar.specs.Spelling.{Spelling}
+use Rattle.winnow_grammar.specs.Spellings.{AreHeld, OneToken, Then}
 use Rattle.winnow_exact.specs.Nested.{IsNested, IsExact-IsNested}
 use Rattle.winnow_exact.specs.Exact.{IsExact}
 use Rattle.winnow_exact.specs.Languages.{nothing, Link, Links}

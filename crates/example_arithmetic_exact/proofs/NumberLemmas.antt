@@ -8,8 +8,8 @@ use Rattle.std.proofs.lemmas.Bool.Decides.{nat_tests}
 use Rattle.std.proofs.lemmas.Str.{digit_value_digit}
 use Rattle.winnow_combinator.specs.Gathering.{Folds}
 use Rattle.winnow_ascii.specs.Classes.{is_ascii_multispace}
-use Rattle.winnow_spelling.specs.Spelling.{Spelling}
-use Rattle.winnow_spelling.specs.Spellings.{AreHeld}
+use Rattle.winnow_grammar.specs.Spelling.{Spelling}
+use Rattle.winnow_grammar.specs.Spellings.{AreHeld}
 use Rattle.winnow_exact.specs.Exact.{IsExact}
 use Rattle.winnow_exact.specs.Languages.{AreTokens}
 use Rattle.winnow_exact.proofs.lemmas.ValueLemmas.{IsExact-as, IsExact-Gathered, IsExact-Appending}

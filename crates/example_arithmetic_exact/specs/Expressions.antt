@@ -3,7 +3,7 @@ use Rattle.std.specs.Prelude.{◌≡◌, ℕ, ◌+◌, ◌*◌, ◌^◌, ◌<◌
 use Rattle.std.specs.Char.{is_ascii_digit, digit_value}
 use Rattle.winnow_ascii.specs.Classes.{is_ascii_multispace}
 use Rattle.example_arithmetic_exact.specs.Steps.{OfBoth, Adds, Multiplies}
-use Rattle.winnow_spelling.specs.Spellings.{AreHeld}
+use Rattle.winnow_grammar.specs.Spellings.{AreHeld}
 
 -- a plus or a minus
 abbrev pub is_sum_sign : ℕ → Bool

@@ -7,9 +7,9 @@ use Rattle.std.proofs.lemmas.Option.{none-some, same_Some}
 use Rattle.winnow_stream.specs.Source.{Source}
 use Rattle.winnow_combinator.specs.Gathering.{Folds}
 use Rattle.winnow_ascii.specs.Classes.{is_ascii_multispace}
-use Rattle.winnow_spelling.specs.Spelling.{Spelling, IsWithin}
-use Rattle.winnow_spelling.specs.Spellings.{OneToken, Run, Then, After, Before, Or, Counted, Chain}
-use Rattle.winnow_spelling.specs.SpelledFolds.{InRow-tokens, Keeps, Chain-within}
+use Rattle.winnow_grammar.specs.Spelling.{Spelling, IsWithin}
+use Rattle.winnow_grammar.specs.Spellings.{OneToken, Run, Then, After, Before, Or, Counted, Chain}
+use Rattle.winnow_grammar.specs.SpelledFolds.{InRow-tokens, Keeps, Chain-within}
 use Rattle.example_arithmetic_spelled.specs.Expressions.{AreDigits, number_from, WritesNumber, WritesValue, Part, Expression, Term, Factor, Writes, term, sum, difference, factor, product, quotient, number, parens, spaced, WritesPart}
 use Rattle.example_arithmetic_spelled.specs.Steps.{HasDigit, IsSum, IsProduct}
 

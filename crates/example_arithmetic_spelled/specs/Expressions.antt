@@ -2,7 +2,7 @@
 use Rattle.std.specs.Prelude.{◌≡◌, ◌≢◌, ℕ, ◌<◌, ◌≤◌, ℤ, pos, ◌+ℤ◌, ◌-ℤ◌, ◌*ℤ◌, int_div, List, [], ◌∷◌, ◌++◌, length, Option, IfSome, ⊤}
 use Rattle.std.specs.Char.{digit_value}
 use Rattle.winnow_ascii.specs.Classes.{is_ascii_multispace}
-use Rattle.winnow_spelling.specs.Spellings.{AreHeld}
+use Rattle.winnow_grammar.specs.Spellings.{AreHeld}
 
 -- each is a decimal digit
 abbrev pub AreDigits : List ℕ → Type 0

@@ -5,16 +5,15 @@
 ghost use Rattle.std.specs.Prelude.{◌≡◌, pos, Some, IfSome};
 ghost use Rattle.example_arithmetic_spelled.specs.Expressions.{Expression, Writes, WritesPart};
 ghost use Rattle.example_arithmetic_spelled.specs.Expressions.{WritesValue};
-ghost use Rattle.winnow_spelling.specs.Texts.{SpelledText};
+ghost use Rattle.winnow_grammar.specs.Texts.{SpelledText};
 ghost use Rattle.example_arithmetic_spelled.specs.Steps.{HasDigit, IsSum, IsProduct};
 
 use std::alloc::Global;
 use winnow_ascii::{Class, multispace0};
 use winnow_combinator::{alt, delimited, repeat, separated_foldl1};
 use winnow_error::{EmptyError, ParserError};
-use winnow_grammar::Text;
+use winnow_grammar::{LayerAs, ReadsAs, Spells, Text, ask_as, ask_text, nested_as, part_as};
 use winnow_parser::{ModalResult, Parser};
-use winnow_spelling::{LayerAs, ReadsAs, Spells, ask_as, ask_text, nested_as, part_as};
 use winnow_token::one_of;
 
 /// A number. It has no value if it is too great.

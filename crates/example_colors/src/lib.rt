@@ -3,15 +3,14 @@
 #![tactic(auto)]
 
 ghost use Rattle.std.specs.Prelude.{◌≡◌, IfSome};
-ghost use Rattle.winnow_spelling.specs.Texts.{SpelledText};
+ghost use Rattle.winnow_grammar.specs.Texts.{SpelledText};
 ghost use Rattle.example_colors.specs.Colors.{IsByteOf, WritesByte, WritesColor};
 
 use std::alloc::Global;
 use winnow_combinator::preceded;
 use winnow_error::{EmptyError, ParserError};
-use winnow_grammar::Text;
+use winnow_grammar::{ReadsAs, Text, ask_as, ask_text, part_as};
 use winnow_parser::{ModalResult, Parser};
-use winnow_spelling::{ReadsAs, ask_as, ask_text, part_as};
 use winnow_token::{any, one_of};
 
 /// A colour.

@@ -6,7 +6,7 @@ use Rattle.winnow_stream.specs.Source.{Source}
 use Rattle.winnow_stream.specs.Front.{is_offset, front}
 use Rattle.winnow_parser.specs.Outcome.{Ahead, Backtracks, Fails, Meaning}
 use Rattle.winnow_spans.specs.TokenSpan.{span_of}
-use Rattle.winnow_spelling.specs.Spelling.{Spelling, tokens_of}
+use Rattle.winnow_grammar.specs.Spelling.{Spelling, tokens_of}
 use Rattle.winnow_expression.specs.declared.operators.Infix.{Infix}
 use Rattle.winnow_expression.specs.declared.operators.Prefix.{Prefix}
 use Rattle.example_lexer.specs.declared.token.Kind.{Kind}

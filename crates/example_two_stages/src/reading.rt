@@ -3,7 +3,7 @@
 ghost use Rattle.std.specs.Prelude.{◌≤◌, length, IfOk};
 ghost use Rattle.winnow_grammar.specs.AnyAnswer.{AnyAnswer};
 ghost use Rattle.winnow_parser.specs.Answer.{ahead, outcome};
-ghost use Rattle.winnow_spelling.specs.Spelling.{tokens_of};
+ghost use Rattle.winnow_grammar.specs.Spelling.{tokens_of};
 ghost use Rattle.example_two_stages.specs.Formulas.{Sum, Writes, IsFormula};
 ghost use Rattle.example_two_stages.specs.Grammar.{WritesPart, SlicesHaveSpans};
 
@@ -16,9 +16,9 @@ use winnow_combinator::{eof, terminated};
 use winnow_error::{AddContext, ParserError};
 use winnow_error_context::{ContextError, StrContext, StrContextValue};
 use winnow_error_parse::ParseError;
+use winnow_grammar::nested_as;
 use winnow_parser::{Failure, ModalResult, Parser, WholeResult};
 use winnow_spans::SliceSpan;
-use winnow_spelling::nested_as;
 use winnow_stream::{Location, Stream, StreamIsPartial};
 use winnow_views::TokenSlice;
 use winnow_wrap::LocatingSlice;

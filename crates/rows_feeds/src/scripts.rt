@@ -4,8 +4,8 @@ use crate::asked::{answers, asked_of};
 use rows::{Fault, Words};
 use std::alloc::{AllocError, Global};
 use winnow_script_feed::{ByteFeed, TextFeed, run_pieces, run_pieces_text};
+use winnow_script_lines::{Contents, Lines, ScriptStep, lend_steps, read_steps};
 use winnow_script_run::SearchStep;
-use winnow_script_text::{Contents, Lines, ScriptStep, lend_steps, read_steps};
 use winnow_sets::CharSet;
 
 // Returns the steps as lines.

@@ -3,7 +3,7 @@
 use crate::cases::tell;
 use crate::printing::gives;
 use std::alloc::{AllocError, Global};
-use winnow_script_text::literal;
+use winnow_script_lines::literal;
 
 const WORD: &[u8] = b"31327A";
 

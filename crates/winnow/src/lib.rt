@@ -4,9 +4,9 @@
 //! It is laid out as the Rust crate is: [`Parser`], [`ModalResult`] and the wrappers of streams at
 //! the top, the names that most grammars need in [`prelude`], parsers of tokens in [`token`], of
 //! ASCII text in [`ascii`], of numbers and counted parts in [`binary`], parsers that are made of
-//! parsers in [`combinator`], grammars of one's own in [`grammar`] and, with what spells their
-//! values, in [`spelling`], ranges of lexed tokens in [`spans`], formats that are read and written
-//! by one description in [`codec`], readers over pieces in [`reader`] and [`scan`], with a limit in
+//! parsers in [`combinator`], grammars of one's own, also with what spells their values, in
+//! [`grammar`], ranges of lexed tokens in [`spans`], formats that are read and written by one
+//! description in [`codec`], readers over pieces in [`reader`] and [`scan`], with a limit in
 //! [`limit`], errors in [`error`], and [`stream`] as `winnow_base` has it.
 //!
 //! Laws stand in modules of their own: [`laws`], [`token::laws`], and so on. Everything here comes
@@ -39,4 +39,3 @@ pub use winnow_parser::{
 pub use winnow_reader as reader;
 pub use winnow_scan as scan;
 pub use winnow_spans as spans;
-pub use winnow_spelling as spelling;

@@ -1,7 +1,7 @@
 -- What it is for a parser to read a language: the tokens that spell some value.
 use Rattle.std.specs.Prelude.{◌≡◌, ℕ, Bool, true, false, List, [], ◌∷◌, ◌++◌, ⊤}
 use Rattle.winnow_stream.specs.Source.{Source, HasPositiveWidths}
-use Rattle.winnow_spelling.specs.Spelling.{Spelling, tokens_of}
+use Rattle.winnow_grammar.specs.Spelling.{Spelling, tokens_of}
 use Rattle.winnow_parser.specs.Outcome.{Ahead, Backtracks, Gives, Fails, Meaning}
 
 -- there are no tokens, or the first passes the test

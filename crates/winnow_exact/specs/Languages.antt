@@ -1,7 +1,7 @@
 -- Languages that are made of languages, as parsers are made of parsers.
 use Rattle.std.specs.Prelude.{◌≡◌, ℕ, zero, suc, ◌≤◌, Bool, false, ◌||◌, List, [], ◌++◌, length}
-use Rattle.winnow_spelling.specs.Spelling.{Spelling}
-use Rattle.winnow_spelling.specs.Spellings.{OneToken, AreHeld, Then}
+use Rattle.winnow_grammar.specs.Spelling.{Spelling}
+use Rattle.winnow_grammar.specs.Spellings.{OneToken, AreHeld, Then}
 
 -- no token goes on after it
 abbrev pub nothing : {T : Type 0} → T → Bool

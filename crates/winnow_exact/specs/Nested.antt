@@ -5,7 +5,7 @@ use Rattle.winnow_parser.specs.Laws.{IsParser}
 use Rattle.winnow_parser.specs.Meanings.{CutsErr}
 use Rattle.winnow_parser.specs.Parts.{IsParser-CutsErr}
 use Rattle.winnow_combinator.specs.Ending.{IsFail, IsParser-IsFail}
-use Rattle.winnow_spelling.specs.Spelling.{Spelling}
+use Rattle.winnow_grammar.specs.Spelling.{Spelling}
 use Rattle.winnow_exact.specs.Exact.{IsExact}
 
 module _ {O T : Type 0} (layer : Meaning O T → Meaning O T) where

@@ -1,1 +1,13 @@
 pub mod AnyAnswer
+pub mod Spelling
+pub mod Spellings
+pub mod SpellingRows
+pub mod SpelledFolds
+pub mod Spelt
+pub mod Spelled
+pub mod SpelledTokens
+pub mod Texts
+pub mod SpelledSlices
+pub mod SpelledLists
+pub mod SpelledRows
+pub mod SpelledChoices

@@ -19,7 +19,7 @@
 #![tactic(auto)]
 
 use std::process::ExitCode;
-use winnow_script_text::{Failure, execute, read_script};
+use winnow_script_lines::{Failure, execute, read_script};
 
 fn main(rt: HostRuntime) -> ExitCode {
     match answer(&rt) {

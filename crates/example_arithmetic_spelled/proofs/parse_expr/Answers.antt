@@ -1,6 +1,6 @@
 use Rattle.std.proofs.Common.{◌≡◌, Some, sym, subst}
-use Rattle.winnow_spelling.specs.Spellings.{MadeOf}
-use Rattle.winnow_spelling.specs.Texts.{SpelledText-on}
+use Rattle.winnow_grammar.specs.Spellings.{MadeOf}
+use Rattle.winnow_grammar.specs.Texts.{SpelledText-on}
 use Rattle.example_arithmetic_spelled.specs.Expressions.{Expression, Writes, WritesPart}
 use Rattle.example_arithmetic_spelled.proofs.parse_expr.Goals as goal
 

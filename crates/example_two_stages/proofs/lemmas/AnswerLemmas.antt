@@ -9,8 +9,8 @@ use Rattle.winnow_parser.specs.Context.{InContext}
 use Rattle.winnow_parser.specs.Meanings.{IsTerminated}
 use Rattle.winnow_combinator.specs.Ending.{IsEof}
 use Rattle.winnow_stream.specs.Source.{Source}
-use Rattle.winnow_spelling.specs.Spelling.{Spelling, tokens_of, TakesFor}
-use Rattle.winnow_spelling.specs.Spelt.{Spelt}
+use Rattle.winnow_grammar.specs.Spelling.{Spelling, tokens_of, TakesFor}
+use Rattle.winnow_grammar.specs.Spelt.{Spelt}
 use Rattle.winnow_stream.specs.declared.needed.Needed.{Needed}
 
 -- a failure is that of a parser of other values

@@ -1,7 +1,7 @@
 -- What the parsers of an operand spell: a number, a name, or a formula in parentheses.
 use Rattle.std.proofs.Common.{◌≡◌, ℕ, true, List, [], ◌∷◌, ◌++◌, Some, ap, sym, ◌∙◌, subst, inl, inr}
-use Rattle.winnow_spelling.specs.Spelling.{Spelling, IsWithin}
-use Rattle.winnow_spelling.specs.Spellings.{OneToken, After, Before, Or, MadeOf}
+use Rattle.winnow_grammar.specs.Spelling.{Spelling, IsWithin}
+use Rattle.winnow_grammar.specs.Spellings.{OneToken, After, Before, Or, MadeOf}
 use Rattle.example_lexer.specs.declared.token.Kind.{Kind}
 use Rattle.example_lexer.specs.declared.token.Kind.TheVariants as kind
 use Rattle.example_lexer.specs.declared.token.Token.{Token}

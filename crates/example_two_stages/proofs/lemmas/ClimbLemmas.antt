@@ -11,8 +11,8 @@ use Rattle.winnow_parser.specs.Outcome.{Ahead, Gives, Meaning}
 use Rattle.winnow_parser.specs.Meanings.{Maps}
 use Rattle.winnow_combinator.specs.Ending.{IsFail}
 use Rattle.winnow_spans.specs.TokenSpan.{span_of}
-use Rattle.winnow_spelling.specs.Spelling.{tokens_of, TakesFor, IsSpelled}
-use Rattle.winnow_spelling.specs.Spelled.{wide-after}
+use Rattle.winnow_grammar.specs.Spelling.{tokens_of, TakesFor, IsSpelled}
+use Rattle.winnow_grammar.specs.Spelled.{wide-after}
 use Rattle.winnow_expression.specs.Expression.{IsOperand, IsNext, IsLayer, IsExpression}
 use Rattle.winnow_expression.specs.Found.{Found, Fits, Unfit, Absent, IsFound}
 use Rattle.winnow_expression.specs.Levels.{Admits}

@@ -14,8 +14,8 @@ use Rattle.winnow_parser.specs.Taken.{IsFrontTaken, WithTaken}
 use Rattle.winnow_parser.specs.Context.{InContext}
 use Rattle.winnow_token.specs.OneOf.{IsOneOf}
 use Rattle.winnow_spans.specs.TokenSpan.{HasTokenSpan, IsSpan, span_of}
-use Rattle.winnow_spelling.specs.Spelling.{Spelling, tokens_of, TakesFor, IsSpelled, IsWithin}
-use Rattle.winnow_spelling.specs.Spelt.{Spelt}
+use Rattle.winnow_grammar.specs.Spelling.{Spelling, tokens_of, TakesFor, IsSpelled, IsWithin}
+use Rattle.winnow_grammar.specs.Spelt.{Spelt}
 use Rattle.winnow_expression.specs.declared.operators.Prefix.{Prefix}
 use Rattle.example_lexer.specs.declared.token.Kind.{Kind}
 use Rattle.example_lexer.specs.declared.token.Kind.TheVariants as kind

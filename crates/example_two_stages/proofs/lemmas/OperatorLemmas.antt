@@ -8,7 +8,7 @@ use Rattle.winnow_stream.specs.Source.{Source, first_token}
 use Rattle.winnow_parser.specs.Outcome.{Meaning}
 use Rattle.winnow_parser.specs.Meanings.{VerifyMaps}
 use Rattle.winnow_token.specs.OneOf.{IsOneOf}
-use Rattle.winnow_spelling.specs.Spelling.{tokens_of, IsSpelled}
+use Rattle.winnow_grammar.specs.Spelling.{tokens_of, IsSpelled}
 use Rattle.winnow_expression.specs.declared.level.Level.{Level}
 use Rattle.winnow_expression.specs.declared.level.Level.TheVariants.{AtLeast, Above}
 use Rattle.winnow_expression.specs.declared.operators.Infix.{Infix}

@@ -5,7 +5,7 @@ use Rattle.std.specs.Borrow.{Bor}
 use Rattle.winnow_stream.specs.Source.{Source, units}
 use Rattle.winnow_stream.specs.Front.{front}
 use Rattle.winnow_spans.specs.TokenSpan.{span_of}
-use Rattle.winnow_spelling.specs.Spelling.{tokens_of}
+use Rattle.winnow_grammar.specs.Spelling.{tokens_of}
 use Rattle.winnow_views.specs.TokenSources.{references}
 use Rattle.example_lexer.specs.declared.token.Token.{Token}
 

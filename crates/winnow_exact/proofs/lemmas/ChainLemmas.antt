@@ -10,8 +10,8 @@ use Rattle.winnow_parser.specs.Meanings.{Pair}
 use Rattle.winnow_token.specs.OneOf.{IsOneOf}
 use Rattle.winnow_combinator.specs.Repeat.{Taking, InTurn, OneMore}
 use Rattle.winnow_combinator.specs.Separated.{IsSeparatedFoldl1}
-use Rattle.winnow_spelling.specs.Spelling.{tokens_of, Spelling}
-use Rattle.winnow_spelling.specs.Spellings.{OneToken, Then}
+use Rattle.winnow_grammar.specs.Spelling.{tokens_of, Spelling}
+use Rattle.winnow_grammar.specs.Spellings.{OneToken, Then}
 use Rattle.winnow_exact.specs.Exact.{StartsIn, Lacks, Ends, Leaves, IsExact}
 use Rattle.winnow_exact.specs.Languages.{either, Link, Links}
 use Rattle.winnow_exact.proofs.lemmas.ListLemmas.{heads, not-empty, not-both, or-left, or-right, starts-on}

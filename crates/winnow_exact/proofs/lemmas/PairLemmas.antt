@@ -4,8 +4,8 @@ use Rattle.std.specs.Prelude.{◌⊎◌}
 use Rattle.winnow_stream.specs.Source.{HasPositiveWidths}
 use Rattle.winnow_parser.specs.Outcome.{Ahead, Backtracks, Gives, Fails, Meaning}
 use Rattle.winnow_parser.specs.Meanings.{Pair, IsAlt2}
-use Rattle.winnow_spelling.specs.Spelling.{tokens_of, Spelling}
-use Rattle.winnow_spelling.specs.Spellings.{Then, Or}
+use Rattle.winnow_grammar.specs.Spelling.{tokens_of, Spelling}
+use Rattle.winnow_grammar.specs.Spellings.{Then, Or}
 use Rattle.winnow_exact.specs.Exact.{StartsIn, Lacks, Ends, Leaves, IsExact}
 use Rattle.winnow_exact.specs.Languages.{either}
 use Rattle.winnow_exact.proofs.lemmas.ListLemmas.{heads, or-left, or-right, starts-on}

@@ -10,8 +10,8 @@ use Rattle.winnow_token.specs.OneOf.{IsOneOf}
 use Rattle.winnow_token.specs.TakeWhile.{TakesWhile}
 use Rattle.winnow_token.proofs.lemmas.RunLemmas.{held-run}
 use Rattle.winnow_combinator.specs.Repeat.{Taking, InTurn, OneMore, Repeats}
-use Rattle.winnow_spelling.specs.Spelling.{tokens_of}
-use Rattle.winnow_spelling.specs.Spellings.{AreHeld}
+use Rattle.winnow_grammar.specs.Spelling.{tokens_of}
+use Rattle.winnow_grammar.specs.Spellings.{AreHeld}
 use Rattle.winnow_exact.specs.Exact.{StartsIn, Lacks, Ends, Leaves, IsExact}
 use Rattle.winnow_exact.specs.Languages.{IsRun, AreTokens}
 use Rattle.winnow_exact.proofs.lemmas.ListLemmas.{heads, tails, not-empty, not-both}

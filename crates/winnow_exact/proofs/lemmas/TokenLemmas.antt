@@ -5,8 +5,8 @@ use Rattle.std.proofs.lemmas.Option.{none-some, same_Some}
 use Rattle.winnow_stream.specs.Source.{Source, first_token, HasPositiveWidths}
 use Rattle.winnow_parser.specs.Outcome.{Ahead, Backtracks, Gives, Fails}
 use Rattle.winnow_token.specs.OneOf.{IsOneOf}
-use Rattle.winnow_spelling.specs.Spelling.{tokens_of}
-use Rattle.winnow_spelling.specs.Spellings.{OneToken}
+use Rattle.winnow_grammar.specs.Spelling.{tokens_of}
+use Rattle.winnow_grammar.specs.Spellings.{OneToken}
 use Rattle.winnow_exact.specs.Exact.{Lacks, Ends, Leaves, IsExact}
 use Rattle.winnow_exact.specs.Languages.{nothing}
 use Rattle.winnow_exact.proofs.lemmas.ListLemmas.{heads, tails, not-empty, not-both}

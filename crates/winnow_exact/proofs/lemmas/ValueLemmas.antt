@@ -5,7 +5,7 @@ use Rattle.winnow_parser.specs.Outcome.{Ahead, Backtracks, Gives, Fails, Meaning
 use Rattle.winnow_parser.specs.Meanings.{Maps}
 use Rattle.winnow_combinator.specs.Appended.{Appending}
 use Rattle.winnow_combinator.specs.Gathering.{Gathered}
-use Rattle.winnow_spelling.specs.Spelling.{tokens_of, Spelling}
+use Rattle.winnow_grammar.specs.Spelling.{tokens_of, Spelling}
 use Rattle.winnow_exact.specs.Exact.{Lacks, Ends, Leaves, IsExact}
 use Rattle.winnow_exact.proofs.lemmas.ListLemmas.{starts-on}
 

@@ -1,4 +1,4 @@
-use Rattle.winnow_spelling.specs.Spelt.{Spelt-on}
+use Rattle.winnow_grammar.specs.Spelt.{Spelt-on}
 use Rattle.example_arithmetic_spelled.specs.Expressions.{Expression, WritesPart}
 use Rattle.example_arithmetic_spelled.proofs.ExpressionLemmas.{ExpressionsBy, expressions-within}
 use Rattle.example_arithmetic_spelled.proofs.ExprLayerAs.read.Goals as goal

@@ -2,8 +2,8 @@ use Rattle.std.proofs.Common.{◌≡◌, Some, None}
 use Rattle.std.specs.Prelude.{pos, IfSome}
 use Rattle.std.specs.Char.{is_ascii_digit}
 use Rattle.winnow_combinator.specs.Gathering.{Folds}
-use Rattle.winnow_spelling.specs.Spellings.{OneToken, Counted}
-use Rattle.winnow_spelling.specs.Spelt.{Spelt-on}
+use Rattle.winnow_grammar.specs.Spellings.{OneToken, Counted}
+use Rattle.winnow_grammar.specs.Spelt.{Spelt-on}
 use Rattle.example_arithmetic_spelled.specs.Expressions.{WritesValue}
 use Rattle.example_arithmetic_spelled.specs.Steps.{HasDigit}
 use Rattle.example_arithmetic_spelled.proofs.ExpressionLemmas.{number-within}

@@ -1,8 +1,8 @@
 use Rattle.std.proofs.Common.{◌≡◌, ◌==◌, ◌++◌, ◌∷◌, ap, sym, ◌∙◌, subst, arith}
 use Rattle.std.proofs.lemmas.Bool.Decides.{nat_tests}
-use Rattle.winnow_spelling.specs.SpellingRows.{Then3}
-use Rattle.winnow_spelling.specs.Spellings.{OneToken, After, MadeOf}
-use Rattle.winnow_spelling.specs.Spelt.{Spelt-on}
+use Rattle.winnow_grammar.specs.SpellingRows.{Then3}
+use Rattle.winnow_grammar.specs.Spellings.{OneToken, After, MadeOf}
+use Rattle.winnow_grammar.specs.Spelt.{Spelt-on}
 use Rattle.example_colors.specs.Colors.{WritesByte, WritesColor}
 use Rattle.example_colors.proofs.HexColorReadsAs.read.Goals as goal
 

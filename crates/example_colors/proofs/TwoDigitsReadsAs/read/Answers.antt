@@ -1,6 +1,6 @@
 use Rattle.std.proofs.Common.{true, ◌++◌, ◌∷◌, ap, ◌∙◌}
-use Rattle.winnow_spelling.specs.Spellings.{OneToken, Then, MadeOf}
-use Rattle.winnow_spelling.specs.Spelt.{Spelt-on}
+use Rattle.winnow_grammar.specs.Spellings.{OneToken, Then, MadeOf}
+use Rattle.winnow_grammar.specs.Spelt.{Spelt-on}
 use Rattle.example_colors.specs.Colors.{IsByteOf, WritesByte}
 use Rattle.example_colors.proofs.TwoDigitsReadsAs.read.Goals as goal
 

@@ -1,4 +1,4 @@
-use Rattle.winnow_spelling.specs.Spelt.{Spelt-on}
+use Rattle.winnow_grammar.specs.Spelt.{Spelt-on}
 use Rattle.example_two_stages.specs.Grammar.{WritesOperand}
 use Rattle.example_two_stages.proofs.lemmas.ChoiceLemmas.{OperandsBy, operand-within}
 use Rattle.example_two_stages.proofs.formula.BesideReadsAs.read.Goals as goal

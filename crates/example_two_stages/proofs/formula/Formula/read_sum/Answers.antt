@@ -4,7 +4,7 @@ use Rattle.winnow_parser.specs.Answer.{ahead}
 use Rattle.winnow_parser.specs.Meanings.{Returns}
 use Rattle.winnow_parser.specs.Outcome.{Gives}
 use Rattle.winnow_expression.specs.declared.level.Level.TheVariants.{AtLeast}
-use Rattle.winnow_spelling.specs.Spelling.{TakesFor}
+use Rattle.winnow_grammar.specs.Spelling.{TakesFor}
 use Rattle.example_two_stages.specs.Formulas.{Sum}
 use Rattle.example_two_stages.specs.Grammar.{WritesPart}
 use Rattle.example_two_stages.proofs.lemmas.AnswerLemmas.{spelt-by}

@@ -1,4 +1,4 @@
-use Rattle.winnow_spelling.specs.Spelt.{Spelt-on}
+use Rattle.winnow_grammar.specs.Spelt.{Spelt-on}
 use Rattle.example_two_stages.specs.Grammar.{WritesInParens}
 use Rattle.example_two_stages.proofs.lemmas.ChoiceLemmas.{ParensBy, parens-within}
 use Rattle.example_two_stages.proofs.formula.InParensReadsAs.read.Goals as goal

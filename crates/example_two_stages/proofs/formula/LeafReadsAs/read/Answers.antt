@@ -1,4 +1,4 @@
-use Rattle.winnow_spelling.specs.Spelt.{Spelt-on}
+use Rattle.winnow_grammar.specs.Spelt.{Spelt-on}
 use Rattle.example_two_stages.specs.Grammar.{WritesLeaf}
 use Rattle.example_two_stages.proofs.lemmas.ChoiceLemmas.{LeavesBy, leaf-spelled}
 use Rattle.example_two_stages.proofs.formula.LeafReadsAs.read.Goals as goal

@@ -1,4 +1,0 @@
-//! The parsers: a type for each, in a file that is named for its function.
-
-pub(crate) mod nested_as;
-pub(crate) mod part_as;
