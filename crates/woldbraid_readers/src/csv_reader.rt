@@ -89,7 +89,7 @@ impl CsvReader {
         self.read_record(shown)
     }
 
-    // Reads the next record where none waits.
+    // Reads the next record, if none waits to be lent.
     fn read_record(&mut self, shown: &mut CsvRecord) -> Status
         requires { self.old.waits ≡ false }
         ensures { ReadsRecord self.old result shown.new self.new }

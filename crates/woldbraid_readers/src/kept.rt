@@ -1,4 +1,4 @@
-//! `Kept`: a reader of any format, as a handle of C holds it.
+//! `Kept`: a reader of one of the formats, as a handle of C holds it.
 
 ghost use Rattle.std.specs.Prelude.{◌≡◌};
 ghost use Rattle.woldbraid_readers.specs.KeptCalls.{PushesKept, EndsKept, ReadsEvent, ReadsRow};
@@ -10,7 +10,7 @@ use crate::json_event::JsonEvent;
 use crate::json_reader::JsonReader;
 use crate::status::Status;
 
-/// A reader of any format.
+/// A reader of one of the formats of the C library.
 #[derive(Drop)]
 pub enum Kept {
     /// A reader of the events of a JSON text

@@ -1,8 +1,8 @@
 //! What the C library of this name calls: readers over pieces that answer by numbers and pointers.
 //!
 //! A [`JsonReader`] has the proved reader of its format, and what the last call lent. [`Kept`] is a
-//! reader of any format, as a handle of C holds it. A call answers by a [`Status`], and writes what
-//! it read into a plain struct.
+//! reader of one of the formats, as a handle of C holds it. A call answers by a [`Status`], and
+//! writes what it read into a plain struct.
 #![tactic(auto)]
 
 mod csv_reader;

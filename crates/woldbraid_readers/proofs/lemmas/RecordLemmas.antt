@@ -23,8 +23,8 @@ ends-more start (x ∷ xs) field =
     let same : start + length x + length (joined (xs ++ field ∷ [])) ≡ start + length (x ++ joined (xs ++ field ∷ [])) = omega (arith, size) in
     ap (λ rest. (start + length x) ∷ rest) (more ∙ ap (λ n. ends_from (start + length x) xs ++ n ∷ []) same)
 
--- the bytes and the offsets of so many fields, with the next field appended, are those of one field
--- more
+-- the bytes and the offsets of the first i fields, with field i appended, are those of the first
+-- i + 1 fields
 pub fills-more : (fields : List (List ℕ)) (i : ℕ) (field : List ℕ) → i < length fields
     → get_or fields i [] ≡ field → (text ends : List ℕ)
     → text ≡ joined (take i fields) → ends ≡ ends_of (take i fields)
