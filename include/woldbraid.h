@@ -151,6 +151,9 @@ size_t wb_json_fed(wb_json_reader *reader);
 /* Returns how many bytes of the input are kept: those that wait to be read, and those that were read since the last piece. */
 size_t wb_json_held(wb_json_reader *reader);
 
+/* Returns how many bytes of the input were read: the place after the last event. Blanks before the next event are not counted. */
+size_t wb_json_place(wb_json_reader *reader);
+
 /* Returns how many arrays and objects are open. */
 size_t wb_json_level(wb_json_reader *reader);
 
@@ -224,6 +227,9 @@ size_t wb_csv_fed(wb_csv_reader *reader);
 
 /* Returns how many bytes of the input are kept: those that wait to be read, and those that were read since the last piece. */
 size_t wb_csv_held(wb_csv_reader *reader);
+
+/* Returns how many bytes of the input were read: the place after the last record and the end of its line. */
+size_t wb_csv_place(wb_csv_reader *reader);
 
 /* Frees a reader, or does nothing with NULL. */
 void wb_csv_free(wb_csv_reader *reader);

@@ -26,6 +26,7 @@ static wb_status read_some(wb_csv_reader *reader, size_t most, uint64_t *sum, wb
         if (status == WB_OK)
             *sum = sum_of(record, *sum);
         must(wb_csv_held(reader) <= wb_csv_fed(reader));
+        must(wb_csv_place(reader) <= wb_csv_fed(reader));
     }
     return status;
 }

@@ -103,7 +103,8 @@ static void follow(const uint8_t *orders, size_t count, const uint8_t *text, siz
             break;
         }
         must(wb_json_held(reader) <= wb_json_fed(reader));
-        must(wb_json_level(reader) <= wb_json_fed(reader));
+        must(wb_json_level(reader) <= wb_json_place(reader));
+        must(wb_json_place(reader) <= wb_json_fed(reader));
     }
     wb_json_free(reader);
 }

@@ -26,6 +26,7 @@ extern uint32_t woldbraid_push(void *handle, const uint8_t *piece, size_t length
 extern void woldbraid_end(void *handle);
 extern size_t woldbraid_fed(void *handle);
 extern size_t woldbraid_held(void *handle);
+extern size_t woldbraid_place(void *handle);
 extern void woldbraid_free(void *handle);
 
 static wb_status push(void *reader, const void *piece, size_t length)
@@ -102,6 +103,11 @@ size_t wb_json_held(wb_json_reader *reader)
     return reader == NULL ? 0 : woldbraid_held(reader);
 }
 
+size_t wb_json_place(wb_json_reader *reader)
+{
+    return reader == NULL ? 0 : woldbraid_place(reader);
+}
+
 size_t wb_json_level(wb_json_reader *reader)
 {
     return reader == NULL ? 0 : woldbraid_json_level(reader);
@@ -169,6 +175,11 @@ size_t wb_csv_fed(wb_csv_reader *reader)
 size_t wb_csv_held(wb_csv_reader *reader)
 {
     return reader == NULL ? 0 : woldbraid_held(reader);
+}
+
+size_t wb_csv_place(wb_csv_reader *reader)
+{
+    return reader == NULL ? 0 : woldbraid_place(reader);
 }
 
 void wb_csv_free(wb_csv_reader *reader)

@@ -66,6 +66,7 @@ def load():
         ("wb_json_next", ctypes.c_uint32, [ctypes.c_void_p, ctypes.POINTER(JsonEvent)]),
         ("wb_json_fed", ctypes.c_size_t, [ctypes.c_void_p]),
         ("wb_json_held", ctypes.c_size_t, [ctypes.c_void_p]),
+        ("wb_json_place", ctypes.c_size_t, [ctypes.c_void_p]),
         ("wb_json_level", ctypes.c_size_t, [ctypes.c_void_p]),
         ("wb_json_free", None, [ctypes.c_void_p]),
         ("wb_csv_new", ctypes.c_void_p, [ctypes.POINTER(CsvLimits)]),
@@ -75,6 +76,7 @@ def load():
         ("wb_csv_next", ctypes.c_uint32, [ctypes.c_void_p, ctypes.POINTER(CsvRecord)]),
         ("wb_csv_fed", ctypes.c_size_t, [ctypes.c_void_p]),
         ("wb_csv_held", ctypes.c_size_t, [ctypes.c_void_p]),
+        ("wb_csv_place", ctypes.c_size_t, [ctypes.c_void_p]),
         ("wb_csv_free", None, [ctypes.c_void_p]),
         ("wb_status_text", ctypes.c_char_p, [ctypes.c_uint32]),
         ("wb_json_cause_text", ctypes.c_char_p, [ctypes.c_uint32]),
@@ -132,6 +134,11 @@ class JsonReader:
     def held(self):
         """How many bytes of the input are kept."""
         return LIBRARY.wb_json_held(self._reader)
+
+    @property
+    def place(self):
+        """How many bytes of the input were read."""
+        return LIBRARY.wb_json_place(self._reader)
 
     @property
     def level(self):
@@ -224,6 +231,11 @@ class CsvReader:
     def held(self):
         """How many bytes of the input are kept."""
         return LIBRARY.wb_csv_held(self._reader)
+
+    @property
+    def place(self):
+        """How many bytes of the input were read."""
+        return LIBRARY.wb_csv_place(self._reader)
 
     def close(self):
         """Frees the reader."""

@@ -62,6 +62,7 @@ extern "C" {
     fn wb_csv_next(reader: *mut Opaque, record: *mut RawRecord) -> u32;
     fn wb_csv_fed(reader: *mut Opaque) -> usize;
     fn wb_csv_held(reader: *mut Opaque) -> usize;
+    fn wb_csv_place(reader: *mut Opaque) -> usize;
     fn wb_csv_free(reader: *mut Opaque);
     fn wb_json_new(limits: *const Limits) -> *mut Opaque;
     fn wb_json_push(reader: *mut Opaque, piece: *const u8, length: usize) -> u32;
@@ -69,6 +70,7 @@ extern "C" {
     fn wb_json_fed(reader: *mut Opaque) -> usize;
     fn wb_json_held(reader: *mut Opaque) -> usize;
     fn wb_json_level(reader: *mut Opaque) -> usize;
+    fn wb_json_place(reader: *mut Opaque) -> usize;
     fn wb_json_next(reader: *mut Opaque, event: *mut RawEvent) -> u32;
     fn wb_json_free(reader: *mut Opaque);
     fn wb_status_text(status: u32) -> *const c_char;
@@ -181,6 +183,12 @@ impl JsonReader {
     pub fn held(&mut self) -> usize {
         // SAFETY: the reader was made and not freed.
         unsafe { wb_json_held(self.reader.as_ptr()) }
+    }
+
+    /// Returns how many bytes of the input were read.
+    pub fn place(&mut self) -> usize {
+        // SAFETY: the reader was made and not freed.
+        unsafe { wb_json_place(self.reader.as_ptr()) }
     }
 
     /// Returns how many arrays and objects are open.
@@ -415,6 +423,12 @@ impl CsvReader {
     pub fn held(&mut self) -> usize {
         // SAFETY: the reader was made and not freed.
         unsafe { wb_csv_held(self.reader.as_ptr()) }
+    }
+
+    /// Returns how many bytes of the input were read.
+    pub fn place(&mut self) -> usize {
+        // SAFETY: the reader was made and not freed.
+        unsafe { wb_csv_place(self.reader.as_ptr()) }
     }
 }
 

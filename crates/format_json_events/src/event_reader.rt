@@ -257,6 +257,14 @@ impl EventReader {
         self.tokens.held()
     }
 
+    /// Returns where the next token, or blanks before it, begins in the joined input: how many bytes
+    /// tokens took.
+    pub fn place(&self) -> usize
+        ensures { result ≡ self.now.tokens.place }
+    {
+        self.tokens.place()
+    }
+
     /// Returns how many arrays and objects are open.
     pub fn level(&self) -> usize
         ensures { result ≡ length self.now.text.open_brackets }

@@ -2,7 +2,7 @@
 use Rattle.std.specs.Prelude.{◌≡◌, ℕ, List, [], false, Option, Some, None}
 use Rattle.format_json_events.specs.Reading.{new_reader, HasGiven}
 use Rattle.woldbraid_readers.specs.Codes.{status_code}
-use Rattle.woldbraid_readers.specs.KeptCalls.{PushesKept, EndsKept, ReadsEvent, ReadsRow, fed_kept, held_kept, level_kept}
+use Rattle.woldbraid_readers.specs.KeptCalls.{PushesKept, EndsKept, ReadsEvent, ReadsRow, fed_kept, held_kept, place_kept, level_kept}
 use Rattle.woldbraid_readers.specs.declared.status.Status.{Status}
 use Rattle.woldbraid_readers.specs.declared.status.Status.TheVariants as status
 use Rattle.woldbraid_readers.specs.declared.json_event.JsonEvent.{JsonEvent}
@@ -75,6 +75,10 @@ CountsFed old n new = Counts fed_kept old n new
 -- the number is how many bytes of the input are kept
 abbrev pub CountsHeld : Option Kept → ℕ → Option Kept → Type 0
 CountsHeld old n new = Counts held_kept old n new
+
+-- the number is how many bytes of the input were read
+abbrev pub CountsRead : Option Kept → ℕ → Option Kept → Type 0
+CountsRead old n new = Counts place_kept old n new
 
 -- the number is how many arrays and objects are open
 abbrev pub CountsLevel : Option Kept → ℕ → Option Kept → Type 0

@@ -14,4 +14,6 @@ mod readers;
 pub use csv::{woldbraid_csv_new, woldbraid_csv_next};
 pub use handle::Handle;
 pub use json::{woldbraid_json_level, woldbraid_json_new, woldbraid_json_next};
-pub use readers::{woldbraid_end, woldbraid_fed, woldbraid_free, woldbraid_held, woldbraid_push};
+pub use readers::{
+    woldbraid_end, woldbraid_fed, woldbraid_free, woldbraid_held, woldbraid_place, woldbraid_push,
+};

@@ -1,8 +1,8 @@
-//! The calls of a reader of any format.
+//! The calls that the readers of all formats have.
 
 ghost use Rattle.std.specs.Prelude.{◌≡◌, None};
 ghost use Rattle.woldbraid.specs.Handles.{HasReader};
-ghost use Rattle.woldbraid.specs.Calls.{PushesPiece, EndsInput, CountsFed, CountsHeld};
+ghost use Rattle.woldbraid.specs.Calls.{PushesPiece, EndsInput, CountsFed, CountsHeld, CountsRead};
 
 use crate::handle::Handle;
 use std::alloc::Global;
@@ -52,6 +52,18 @@ pub extern "C" fn woldbraid_held(handle: &mut Handle, alloc: Global) -> usize
     let held = reader.held();
     handle.put(reader);
     held
+}
+
+/// Returns how many bytes of the input were read.
+#[unsafe(no_mangle)]
+pub extern "C" fn woldbraid_place(handle: &mut Handle, alloc: Global) -> usize
+    requires { HasReader handle.old.value }
+    ensures { CountsRead handle.old.value result handle.new.value }
+{
+    let reader = handle.take(alloc);
+    let place = reader.place();
+    handle.put(reader);
+    place
 }
 
 /// Frees a reader. The handle has none then.

@@ -49,6 +49,11 @@ abbrev pub held_kept : Kept → ℕ
 held_kept (kept.Json r) = bytes_kept r.reader.tokens
 held_kept (kept.Csv r) = bytes_kept r.reader
 
+-- how many bytes of it were read
+abbrev pub place_kept : Kept → ℕ
+place_kept (kept.Json r) = r.reader.tokens.place
+place_kept (kept.Csv r) = r.reader.place
+
 -- how many arrays and objects are open
 abbrev pub level_kept : Kept → ℕ
 level_kept (kept.Json r) = length r.reader.text.open_brackets

@@ -113,6 +113,13 @@ impl CsvReader {
         self.reader.held()
     }
 
+    /// Returns how many bytes of the joined input were read.
+    pub fn place(&self) -> usize
+        ensures { result ≡ self.now.reader.place }
+    {
+        self.reader.place()
+    }
+
     // Writes an answer of the reader into a struct, and lends the record if there is one.
     fn tell(&mut self, answer: Result<Next<()>, RowError>, shown: &mut CsvRecord) -> Status
         requires { self.old.waits ≡ false }

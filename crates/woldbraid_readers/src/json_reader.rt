@@ -124,6 +124,13 @@ impl JsonReader {
         self.reader.held()
     }
 
+    /// Returns how many bytes of the joined input were read.
+    pub fn place(&self) -> usize
+        ensures { result ≡ self.now.reader.tokens.place }
+    {
+        self.reader.place()
+    }
+
     /// Returns how many arrays and objects are open.
     pub fn level(&self) -> usize
         ensures { result ≡ length self.now.reader.text.open_brackets }

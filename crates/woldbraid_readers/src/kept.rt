@@ -2,7 +2,7 @@
 
 ghost use Rattle.std.specs.Prelude.{◌≡◌};
 ghost use Rattle.woldbraid_readers.specs.KeptCalls.{PushesKept, EndsKept, ReadsEvent, ReadsRow};
-ghost use Rattle.woldbraid_readers.specs.KeptCalls.{fed_kept, held_kept, level_kept};
+ghost use Rattle.woldbraid_readers.specs.KeptCalls.{fed_kept, held_kept, place_kept, level_kept};
 
 use crate::csv_reader::CsvReader;
 use crate::csv_record::CsvRecord;
@@ -77,6 +77,16 @@ impl Kept {
         match self {
             Kept::Json(reader) => reader.held(),
             Kept::Csv(reader) => reader.held(),
+        }
+    }
+
+    /// Returns how many bytes of the joined input were read.
+    pub fn place(&self) -> usize
+        ensures { result ≡ place_kept self.now }
+    {
+        match self {
+            Kept::Json(reader) => reader.place(),
+            Kept::Csv(reader) => reader.place(),
         }
     }
 
