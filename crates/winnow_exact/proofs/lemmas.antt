@@ -4,3 +4,6 @@ pub mod TokenLemmas
 pub mod RunLemmas
 pub mod PairLemmas
 pub mod ChainLemmas
+pub mod OptLemmas
+pub mod RowLemmas
+pub mod SeparatedLemmas

@@ -1,5 +1,5 @@
 -- Languages that are made of languages, as parsers are made of parsers.
-use Rattle.std.specs.Prelude.{◌≡◌, ℕ, zero, suc, ◌≤◌, Bool, false, ◌||◌, List, [], ◌++◌, length}
+use Rattle.std.specs.Prelude.{◌≡◌, ℕ, zero, suc, ◌≤◌, Bool, true, false, ◌||◌, List, [], ◌∷◌, ◌++◌, length}
 use Rattle.winnow_grammar.specs.Spelling.{Spelling}
 use Rattle.winnow_grammar.specs.Spellings.{OneToken, AreHeld, Then}
 
@@ -29,3 +29,7 @@ Links L sign zero t = t ≡ []
 Links {O} {T} L sign (suc n) t =
     (q : List T) × ((u : List T) × ((y : T × O) × ((t ≡ q ++ u) × Link L sign y q
     × Links L sign n u)))
+
+-- the first of the tokens passes the test
+abbrev pub StartsWith : {T : Type 0} → (T → Bool) → List T → Type 0
+StartsWith {T} sign p = (t : T) × ((ts : List T) × ((p ≡ t ∷ ts) × (sign t ≡ true)))
