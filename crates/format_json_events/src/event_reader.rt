@@ -257,8 +257,8 @@ impl EventReader {
         self.tokens.held()
     }
 
-    /// Returns where the next token, or blanks before it, begins in the joined input: how many bytes
-    /// tokens took.
+    /// Returns how many bytes of the joined input tokens took: the next token, or blanks before it,
+    /// begins there.
     pub fn place(&self) -> usize
         ensures { result ≡ self.now.tokens.place }
     {
