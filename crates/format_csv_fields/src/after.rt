@@ -3,6 +3,7 @@
 ghost use Rattle.std.specs.Prelude.{◌≡◌};
 ghost use Rattle.format_lemmas.specs.Bytes.{StartsWith};
 ghost use Rattle.format_csv_fields.specs.FieldAhead.{Follows};
+ghost use Rattle.format_csv_fields.specs.Reading.{is_comma as comma};
 
 /// What ended a field.
 #[derive(Clone, Copy, Debug, Drop, PartialEq, Eq)]
@@ -22,6 +23,13 @@ pub(crate) enum After {
     Open,
     /// Something that cannot follow
     Broken,
+}
+
+// Returns whether a comma ended the field.
+pub(crate) fn is_comma(ending: Ending) -> bool
+    ensures { result ≡ comma ending }
+{
+    matches!(ending, Ending::Comma)
 }
 
 // Returns what the bytes after the text of a field begin with.

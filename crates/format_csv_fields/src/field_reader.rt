@@ -2,10 +2,10 @@
 
 ghost use Rattle.std.specs.Prelude.{◌≡◌};
 
-use crate::after::Ending;
+use crate::after::{Ending, is_comma};
 use crate::finding::{Found, find};
 use crate::lending::{Lent, lend};
-use crate::looking::{Looked, look, looked_at};
+use crate::looking::{Looked, Text, look, looked_at};
 use format_csv::Row;
 use std::alloc::{AllocError, Global};
 use std::marker::Model;
@@ -79,13 +79,20 @@ impl Model for FieldReader {
 }
 
 impl FieldReader {
-    ghost use Rattle.std.specs.Prelude.{◌≡◌, ◌+◌, ◌-◌, ◌≤◌, ◌<◌, ◌^◌, [], false, length};
+    ghost use Rattle.std.specs.Prelude.{◌≡◌, ◌≢◌, ◌+◌, ◌-◌, ◌≤◌, ◌<◌, ◌^◌, []};
+    ghost use Rattle.std.specs.Prelude.{true, false, length};
     ghost use Rattle.std.specs.Prelude.{OnOk, OnErr};
     ghost use Rattle.winnow_reader.specs.State.{fed_of};
+    ghost use Rattle.winnow_reader.specs.SameValues.{IsThrough};
+    ghost use Rattle.format_csv_fields.specs.declared.finding.Found.TheVariants.{Field};
+    ghost use Rattle.format_csv_fields.specs.Looking.{IsText};
+    ghost use Rattle.format_csv_fields.specs.Finding.{Finds};
+    ghost use Rattle.format_csv_fields.specs.FieldState.{lends_nothing};
     ghost use Rattle.format_csv_fields.specs.FieldState.{new_reader, fields_pushed};
     ghost use Rattle.format_csv_fields.specs.FieldState.{fields_unspent, fields_ended};
     ghost use Rattle.format_csv_fields.specs.Reading.{HasRead, ReadsAlso, ReadsThrough};
     ghost use Rattle.format_csv_fields.specs.Reading.{ReadsOn, ReadsNext, TellsDamage};
+    ghost use Rattle.format_csv_fields.specs.Reading.{TakesField};
 
     /// Returns a reader that nothing was pushed to, of fields of any length.
     pub fn new(alloc: Global) -> FieldReader
@@ -154,36 +161,66 @@ impl FieldReader {
     fn read_field(&mut self) -> Result<Next<Ending>, FieldError>
         ensures { ReadsNext self.old result self.new }
     {
-        self.lent = Lent::Nothing;
-        let ended = self.reader.has_ended();
-        let kept = self.reader.ahead();
-        let bytes = &kept[self.at..];
-        if ended && !self.within && bytes.is_empty() {
+        if self.is_through() {
+            self.lent = Lent::Nothing;
             return Ok(Next::Done);
         }
-        let text = look(bytes, self.looked);
-        self.looked = looked_at(text, bytes.len());
-        match find(bytes, text, ended, self.limit) {
-            Found::Field(ending, length) => {
-                match lend(kept, self.at, text, &mut self.value) {
-                    Ok(lent) => self.lent = lent,
-                    Err(refused) => return Err(FieldError::Refused(refused)),
-                }
-                self.at += length;
-                self.looked = Looked::Plain(0);
-                self.within = ending == Ending::Comma;
-                Ok(Next::Value(ending))
-            }
+        let text = self.look_ahead();
+        match find(self.ahead(), text, self.has_ended(), self.limit()) {
+            Found::Field(ending, length) => match self.take(text, ending, length) {
+                Ok(()) => Ok(Next::Value(ending)),
+                Err(refused) => Err(FieldError::Refused(refused)),
+            },
             Found::NeedsMore => Ok(Next::NeedsMore),
             Found::Damaged(offset) => {
                 let place = self.place_of(offset);
                 Err(FieldError::Damaged { place })
             }
             Found::TooLong => {
-                let place = self.place_of(self.limit);
+                let place = self.place_of(self.limit());
                 Err(FieldError::TooLong { place })
             }
         }
+    }
+
+    // Returns whether the input has ended, nothing of it remains, and no comma came before.
+    fn is_through(&self) -> bool
+        ensures through { result ≡ true → IsThrough self.now.state × (self.now.within ≡ false) }
+        ensures not { result ≡ false → self.now.within ≡ false → self.now.state.ended ≡ true
+            → self.now.state.ahead ≢ [] }
+    {
+        self.has_ended() && !self.within && self.ahead().is_empty()
+    }
+
+    // Lends nothing any more, and returns the text that is ahead.
+    fn look_ahead(&mut self) -> Text
+        ensures same { self.new ≡ lends_nothing self.old }
+        ensures text { IsText self.new.state.ahead result }
+    {
+        self.lent = Lent::Nothing;
+        let kept = self.reader.ahead();
+        let bytes = &kept[self.at..];
+        let text = look(bytes, self.looked);
+        self.looked = looked_at(text, bytes.len());
+        text
+    }
+
+    // Moves past the field that was found, and lends it.
+    fn take(&mut self, text: Text, ending: Ending, length: usize) -> Result<(), AllocError>
+        requires text { IsText self.old.state.ahead text }
+        requires found { Finds self.old.state.ended self.old.limit self.old.state.ahead text
+            (Field ending length) }
+        requires some { self.old.within ≡ false → self.old.state.ended ≡ true
+            → self.old.state.ahead ≢ [] }
+        ensures taken { OnOk result (TakesField self.old ending self.new) }
+        ensures refused { OnErr result (self.new ≡ lends_nothing self.old) }
+    {
+        self.lent = Lent::Nothing;
+        self.lent = lend(self.reader.ahead(), self.at, text, &mut self.value)?;
+        self.at += length;
+        self.looked = Looked::Plain(0);
+        self.within = is_comma(ending);
+        Ok(())
     }
 
     // Returns the place of an offset of the bytes ahead.

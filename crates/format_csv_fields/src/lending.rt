@@ -34,10 +34,12 @@ pub(crate) fn lend(
 {
     match text {
         Text::Plain(length) => Ok(Lent::Kept(at, at + length)),
-        Text::Quoted(close, false) => Ok(Lent::Kept(at + 1, at + close)),
-        Text::Quoted(_, true) => {
-            unescape(&kept[at + 1..], value)?;
-            Ok(Lent::Value)
+        Text::Quoted(close, doubled) => {
+            if doubled {
+                unescape(&kept[at + 1..], value)?;
+                return Ok(Lent::Value);
+            }
+            Ok(Lent::Kept(at + 1, at + close))
         }
         Text::Open(_) => Ok(Lent::Nothing),
     }

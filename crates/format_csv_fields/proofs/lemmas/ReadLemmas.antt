@@ -1,6 +1,6 @@
 -- Lemmas on the fields that a reader has read.
 use Rattle.std.specs.Prelude.{Bool, true, false, not, min, take, drop, Some, Result, Ok, Err}
-use Rattle.std.proofs.Common.{◌≡◌, ◌≢◌, ℕ, ◌+◌, ◌-◌, ◌≤◌, ◌<◌, zero, List, [], ◌∷◌, ◌++◌, length, refl, inl, inr, ap, sym, ◌∙◌, subst, arith, append_assoc, length-append, length-drop}
+use Rattle.std.proofs.Common.{◌≡◌, ◌≢◌, ℕ, ◌+◌, ◌-◌, ◌≤◌, ◌<◌, zero, suc, List, [], ◌∷◌, ◌++◌, length, refl, inl, inr, ap, sym, ◌∙◌, subst, arith, append_assoc, length-append, length-drop}
 use Rattle.std.proofs.lemmas.List.{drop-drop}
 use Rattle.winnow_reader.specs.Reading.{MayFollow}
 use Rattle.winnow_reader.specs.State.{ReaderState, taken_by, pushed, unspent, ended_after, fed_of, bytes_kept}
@@ -18,10 +18,16 @@ use Rattle.format_csv_fields.specs.declared.finding.Found.TheVariants as found
 use Rattle.format_csv_fields.specs.declared.field_reader.FieldError.{FieldError}
 use Rattle.format_csv_fields.specs.declared.field_reader.FieldError.TheVariants as error
 use Rattle.format_csv_fields.specs.FieldAhead.{EndsField, FieldAhead, BeginsJust}
-use Rattle.format_csv_fields.specs.Looking.{IsValue}
+use Rattle.format_csv.proofs.lemmas.FillByteLemmas.{slice-from}
+use Rattle.format_csv_fields.specs.declared.looking.Looked.{Looked}
+use Rattle.format_csv_fields.specs.Looking.{IsValue, IsText, IsLooked, looked_at}
 use Rattle.format_csv_fields.specs.Finding.{Finds}
+use Rattle.format_csv_fields.specs.declared.finding.Found.{Found}
+use Rattle.format_csv_fields.specs.declared.lending.Lent.{Lent}
+use Rattle.format_csv_fields.specs.Lending.{lent_bytes, Lends}
 use Rattle.format_csv_fields.specs.FieldState.{FieldState, new_reader, lends_nothing, fields_pushed, fields_ended}
 use Rattle.format_csv_fields.specs.Reading.{AreFields, AreRead, IsWithin, HasRead, ReadsAlso, ReadsThrough, ReadsOn, is_comma, TakesField, FindsDamage, ReadsNext, TellsDamage}
+use Rattle.format_csv_fields.proofs.lemmas.LookLemmas.{text-looked, looked-more}
 use Rattle.format_csv_fields.proofs.lemmas.FieldsLemmas.{fields-more, fields-record, fields-some, fields-none, fields-damaged}
 
 -- a new reader has read no fields
@@ -84,7 +90,7 @@ module _ (old new : FieldState) (e : Ending) (t : TakesField old e new) (input :
   -- if no field of the record was read, some bytes are ahead
   begun-some : (ws : List (List ℕ)) (begun more : List ℕ) → IsWithin old.within ws
       → AreFields begun ws (old.state.ahead ++ more) → begun ≢ []
-  begun-some [] begun more outside same none =
+  begun-some [] begun more outside same = λ none.
       omega (arith, t.some outside, t.bound, length-append old.state.ahead more, ap length same, ap length none)
   begun-some (w ∷ ws) begun more inside same = fields-some begun (old.state.ahead ++ more) w ws same
 
@@ -232,6 +238,76 @@ takes-field old new text e n (bound, (v, (is, (spelled, (short, begins))))) lend
   within = within;
   limit = limit;
 }
+
+-- a reader that lent something takes the field that it takes if it lends nothing
+pub takes-lent : (old new : FieldState) (e : Ending) → TakesField (lends_nothing old) e new
+    → TakesField old e new
+takes-lent old new e t = record {
+  text = t.text;
+  n = t.n;
+  some = t.some;
+  bound = t.bound;
+  short = t.short;
+  begins = t.begins;
+  state = t.state;
+  within = t.within;
+  limit = t.limit;
+}
+
+-- a field that is found in the bytes ahead and lent of the kept bytes is taken
+pub takes-kept : (old : FieldState) (f : ReaderState Row) (at limit : ℕ) (within w : Bool) (field : List ℕ)
+    → record { state = taken_by f at; within = within; field = field; limit = limit } ≡ old
+    → (kept value : List ℕ) (lent : Lent) → kept ≡ f.ahead → (text : Text) (e : Ending) (n : ℕ)
+    → Finds old.state.ended old.limit old.state.ahead text (found.Field e n)
+    → Lends (drop at kept) text lent kept value
+    → (old.within ≡ false → old.state.ended ≡ true → old.state.ahead ≢ []) → w ≡ is_comma e
+    → TakesField old e (record { state = taken_by f (at + n); within = w; field = lent_bytes lent f.ahead value; limit = limit })
+takes-kept old f at limit within w field view kept value lent same text e n finds lends some comma =
+    let new : FieldState = record { state = taken_by f (at + n); within = w; field = lent_bytes lent f.ahead value; limit = limit } in
+    subst (λ (o : FieldState). Finds o.state.ended o.limit o.state.ahead text (found.Field e n)
+        → (o.within ≡ false → o.state.ended ≡ true → o.state.ahead ≢ []) → TakesField o e new) view
+    (λ finds some. takes-field (record { state = taken_by f at; within = within; field = field; limit = limit }) new text e n finds
+        (λ v is. subst (λ k. lent_bytes lent k value ≡ v) same (lends v (subst (λ k. IsValue (drop at k) text v) (sym same) is)))
+        some (taken-twice f at n) comma refl)
+    finds some
+
+-- what is found in the bytes of a reader is found in its state
+pub finds-view : (f : FieldState) (ended : Bool) (limit : ℕ) (bytes : List ℕ) → ended ≡ f.state.ended
+    → limit ≡ f.limit → bytes ≡ f.state.ahead → (text : Text) (found : Found)
+    → Finds ended limit bytes text found → Finds f.state.ended f.limit f.state.ahead text found
+finds-view f ended limit bytes a b c text found h =
+    subst (λ x. Finds x f.limit f.state.ahead text found) a
+    (subst (λ x. Finds ended x f.state.ahead text found) b
+    (subst (λ x. Finds ended limit x text found) c h))
+
+-- the slice of the kept bytes from an index on has the bytes ahead of a reader
+slice-ahead : (kept ahead : List ℕ) (at : ℕ) → kept ≡ ahead
+    → take (length kept - at) (drop at kept) ≡ drop at ahead
+slice-ahead kept ahead at e = slice-from kept at ∙ ap (drop at) e
+
+-- the bytes ahead are looked at as far as their text says
+pub looked-ahead : (kept ahead : List ℕ) (at : ℕ) (text : Text) (l : Looked) → kept ≡ ahead
+    → IsText (take (length kept - at) (drop at kept)) text
+    → l ≡ looked_at (take (length kept - at) (drop at kept)) text → IsLooked (drop at ahead) l
+looked-ahead kept ahead at text l e is same =
+    subst (λ xs. IsLooked xs l) (slice-ahead kept ahead at e)
+    (subst (IsLooked (take (length kept - at) (drop at kept))) (sym same) (text-looked (take (length kept - at) (drop at kept)) text is))
+
+-- the text of the slice is that of the bytes ahead
+pub text-ahead : (kept ahead : List ℕ) (at : ℕ) (text : Text) → kept ≡ ahead
+    → IsText (take (length kept - at) (drop at kept)) text → IsText (drop at ahead) text
+text-ahead kept ahead at text e is = subst (λ xs. IsText xs text) (slice-ahead kept ahead at e) is
+
+-- the bytes ahead are looked at as far as the slice is
+pub look-ahead : (kept ahead : List ℕ) (at : ℕ) (l : Looked) → kept ≡ ahead
+    → IsLooked (drop at ahead) l → IsLooked (take (length kept - at) (drop at kept)) l
+look-ahead kept ahead at l e is = subst (λ xs. IsLooked xs l) (sym (slice-ahead kept ahead at e)) is
+
+-- bytes that are looked at are so with a piece after them, after what was taken is skipped
+pub looked-pushed : (kept ahead piece : List ℕ) (n : ℕ) (l : Looked) → kept ≡ drop n ahead ++ piece
+    → IsLooked (drop n ahead) l → IsLooked (drop 0 kept) l
+looked-pushed kept ahead piece n l e is =
+    subst (λ xs. IsLooked xs l) (sym e) (looked-more (drop n ahead) piece l is)
 
 -- a malformed field is found at its place
 pub finds-damage : (f : FieldState) (text : Text) (n place : ℕ)
