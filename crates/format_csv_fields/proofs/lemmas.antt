@@ -4,3 +4,4 @@ pub mod FindLemmas
 pub mod LendLemmas
 pub mod FieldsLemmas
 pub mod ReadLemmas
+pub mod LawLemmas

@@ -2,7 +2,7 @@
 //!
 //! A [`FieldReader`] is pushed pieces of any sizes. Each call of its `read_next` moves past one
 //! field and says whether the field was the last of its record, and `field` lends the value. The
-//! format is that of `format_csv`, and so are the records: a law says so. What is kept is the field
+//! format is that of `format_csv`, and so are the records, as [`field_rows_law`] says. What is kept is the field
 //! that is read, however long its record is, and a piece.
 //!
 //! A value is lent as it stands in the kept bytes, and no byte of it is copied. Only a value in
@@ -15,6 +15,7 @@
 mod after;
 mod field_reader;
 mod finding;
+mod laws;
 mod lending;
 mod looking;
 mod special;
@@ -22,3 +23,4 @@ mod unescaping;
 
 pub use after::Ending;
 pub use field_reader::{FieldError, FieldReader};
+pub use laws::field_rows_law;

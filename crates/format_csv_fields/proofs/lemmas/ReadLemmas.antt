@@ -194,6 +194,26 @@ module _ (f g h : ReaderState Row) (n k : ℕ) (l : n ≤ length f.ahead) (e : k
   unspent-state p =
       ap (λ x. taken_by x 0) (p ∙ ap (λ x. unspent x) skip-takes) ∙ taken-none (unspent (taken_by f n)) refl
 
+-- a reader of fields after its inner reader notes the end
+pub end-view : (old : FieldState) (f g : ReaderState Row) (at limit : ℕ) (within : Bool) (lent : Lent)
+    (value : List ℕ)
+    → record { state = taken_by f at; within = within; field = lent_bytes lent f.ahead value; limit = limit } ≡ old
+    → g ≡ ended_after f
+    → record { state = taken_by g at; within = within; field = lent_bytes lent g.ahead value; limit = limit } ≡ fields_ended old
+end-view old f g at limit within lent value view e =
+    ap (λ (x : ReaderState Row). record { state = taken_by x at; within = within; field = lent_bytes lent x.ahead value; limit = limit }) e
+    ∙ ap (λ o. fields_ended o) view
+
+-- a reader of fields after a piece is pushed to its inner reader
+pub push-view : (old : FieldState) (f g h : ReaderState Row) (at k limit : ℕ) (within : Bool)
+    (field piece : List ℕ)
+    → record { state = taken_by f at; within = within; field = field; limit = limit } ≡ old
+    → at ≤ length f.ahead → k ≡ min at (length f.ahead) → g ≡ skipped f k → h ≡ pushed g piece
+    → record { state = taken_by h 0; within = within; field = []; limit = limit } ≡ fields_pushed old piece
+push-view old f g h at k limit within field piece view l e skips p =
+    ap (λ s. record { state = s; within = within; field = []; limit = limit }) (pushed-state f g h at k l e skips piece p)
+    ∙ ap (λ o. fields_pushed o piece) view
+
 -- ---- Results
 
 -- a field that takes nothing is empty, and ends with the input

@@ -2,13 +2,13 @@ use Rattle.std.proofs.Common.{◌≡◌, ◌+◌, ap, ◌∙◌, subst}
 use Rattle.format_csv_fields.specs.FieldState.{FieldState}
 use Rattle.format_csv_fields.specs.Finding.{Finds}
 use Rattle.format_csv_fields.specs.Reading.{TakesField}
-use Rattle.format_csv_fields.specs.declared.finding.Found.TheVariants.{NeedsMore, Damaged, TooLong}
+use Rattle.format_csv_fields.specs.declared.finding.Found.TheVariants.{Field, NeedsMore, Damaged, TooLong}
 use Rattle.format_csv_fields.proofs.lemmas.ReadLemmas.{finds-view, takes-lent, finds-damage}
 use Rattle.format_csv_fields.proofs.field_reader.FieldReader.read_field.Goals as goal
 
 pub take-requires-clause-found : goal.take-requires-clause-found
 take-requires-clause-found c =
-    finds-view c.look_ahead-text.new.self c.has_ended.result c.limit.result c.ahead.result.now c.has_ended.ensures c.limit.ensures c.ahead.ensures c.look_ahead-text.result _ c.in-Field.ensures
+    finds-view c.look_ahead-text.new.self c.has_ended.result c.limit.result c.ahead.result.now c.has_ended.ensures c.limit.ensures c.ahead.ensures c.look_ahead-text.result (Field c.in-Field.ending c.in-Field.length) c.in-Field.ensures
 
 pub returns-in-Ok : goal.returns-in-Ok
 returns-in-Ok c =
