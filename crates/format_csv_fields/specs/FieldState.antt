@@ -3,9 +3,9 @@ use Rattle.std.specs.Prelude.{ℕ, Bool, true, false, List, []}
 use Rattle.winnow_reader.specs.State.{ReaderState, at_start, pushed, unspent, ended_after}
 use Rattle.format_csv.specs.declared.grammar.Row.{Row}
 
--- what a reader of fields shows: where the next field begins in the joined input, the bytes ahead of
--- it, and whether the input has ended; whether a comma came before it in its record; the value that
--- is lent; and how long the text of a field may be
+-- what a reader of fields shows: where the next field begins in the joined input, the bytes ahead
+-- of it, and whether the input has ended; whether a comma came before it in its record; the value
+-- that is lent; and how long the text of a field may be
 pub record FieldState : Type 0 where
   pub state : ReaderState Row
   pub within : Bool

@@ -5,8 +5,8 @@ use Rattle.format_csv_fields.specs.declared.lending.Lent.TheVariants.{Nothing, K
 use Rattle.format_csv_fields.specs.declared.looking.Text.{Text}
 use Rattle.format_csv_fields.specs.Looking.{IsValue}
 
--- the value that is lent: none; the kept bytes from one index up to another; or a value that was put
--- together
+-- the value that is lent: none; the kept bytes from one index up to another; or a value that was
+-- put together
 abbrev pub lent_bytes : Lent → List ℕ → List ℕ → List ℕ
 lent_bytes Nothing kept value = []
 lent_bytes (Kept from to) kept value = take (to - from) (drop from kept)

@@ -20,7 +20,8 @@ AreFields bytes [] rest = bytes ≡ rest
 AreFields bytes (value ∷ values) rest = (text : List ℕ) × ((more : List ℕ)
     × ((bytes ≡ text ++ 44 ∷ more) × SpellsField value text × AreFields more values rest))
 
--- the bytes are these records, one after the other, then these fields of the next record, and a rest
+-- the bytes are these records, one after the other, then these fields of the next record, and the
+-- rest
 abbrev pub AreRead : List ℕ → List (List (List ℕ)) → List (List ℕ) → List ℕ → Type 0
 AreRead bytes rows fields rest =
     (begun : List ℕ) × (AreRecords bytes rows begun × AreFields begun fields rest)
@@ -95,11 +96,11 @@ abbrev pub FindsDamage : FieldState → ℕ → Type 0
 FindsDamage f place = (rest : List ℕ)
     × ((fed_of f.state ≡ place + length rest) × IsDamagedBefore f.state.ended f.state.ahead rest)
 
--- the result of a call, and the reader after it. With a value the field ahead is consumed, and lent.
--- Otherwise nothing is lent and the reader is unchanged: the field ahead is unfinished and within
--- the limit; the input is at its end, and no comma came before; the field is malformed at the place;
--- it is longer than the limit, and the place is that of the first byte that is too much; or memory
--- was refused
+-- the result of a call, and the reader after it. With a value the field ahead is consumed, and
+-- lent. Otherwise nothing is lent and the reader is unchanged: the field ahead is unfinished and
+-- within the limit; the input is at its end, and no comma came before; the field is malformed at
+-- the place; it is longer than the limit, and the place is that of the first byte that is too
+-- much; or memory was refused
 abbrev pub ReadsNext : FieldState → Result (Next Ending) FieldError → FieldState → Type 0
 ReadsNext old (Ok (next.Value ending)) new = TakesField old ending new
 ReadsNext old (Ok next.NeedsMore) new = IsUnfinished old.state.ended old.state.ahead

@@ -30,7 +30,8 @@ pub(crate) fn lend(
     requires within { at ≤ len kept.now }
     requires text { IsText (drop at kept.now) text }
     ensures within { IfOk result (λ lent. IsLent lent kept.now) }
-    ensures value { IfOk result (λ lent. Lends (drop at kept.now) text lent kept.now value.new.items) }
+    ensures value { IfOk result (λ lent.
+        Lends (drop at kept.now) text lent kept.now value.new.items) }
 {
     match text {
         Text::Plain(length) => Ok(Lent::Kept(at, at + length)),

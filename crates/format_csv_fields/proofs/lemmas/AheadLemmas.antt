@@ -213,8 +213,8 @@ pub text-least : (v r s more t w rest : List ℕ) (e : Ending) → BeginsField v
     → FieldAhead false (r ++ more) t w e rest → length r ≤ length t + length s
 text-least v r s more t w rest e field h = elim (leb_tells (length r) (length t)) [
   | inr l ↦ let i = inside r more t w rest e h l.1 in
-    let one = field-once false v w t i.0 s i.1.1 i.1.2 (subst (λ x. BeginsField v x s) i.1.0 field) in
-    omega (arith, ap length i.1.0, length-append t i.0, ap length one.1)
+      let one = field-once false v w t i.0 s i.1.1 i.1.2 (subst (λ x. BeginsField v x s) i.1.0 field) in
+      omega (arith, ap length i.1.0, length-append t i.0, ap length one.1)
   | inl l ↦ omega (arith, l.1)
 ]
 
@@ -223,6 +223,6 @@ pub open-least : (r more t w rest : List ℕ) (e : Ending) → IsUnclosedField r
     → FieldAhead false (r ++ more) t w e rest → length r ≤ length t
 open-least r more t w rest e torn h = elim (leb_tells (length r) (length t)) [
   | inr l ↦ let i = inside r more t w rest e h l.1 in
-    absurd (open-not false w t i.0 i.1.1 i.1.2 (subst IsUnclosedField i.1.0 torn))
+      absurd (open-not false w t i.0 i.1.1 i.1.2 (subst IsUnclosedField i.1.0 torn))
   | inl l ↦ omega (arith, l.1)
 ]

@@ -55,7 +55,7 @@ module _ (bytes value rest : List ℕ) (at : ℕ) (doubles : Bool) (er : rest �
         spelled ∙ ap (λ t. 34 ∷ t)
         (chunk-more (doubled value ++ drop at bytes) rest value n (ap (λ t. doubled value ++ t) (sym er)) first
         ∙ ap (λ t. doubled (value ++ take n rest) ++ 34 ∷ t)
-          (ap (drop (n + 1)) er ∙ drop-drop (n + 1) at bytes ∙ ap (λ k. drop k bytes) (omega arith)))
+        (ap (drop (n + 1)) er ∙ drop-drop (n + 1) at bytes ∙ ap (λ k. drop k bytes) (omega arith)))
 
     -- the quote is within the bytes
     chunk-within : at + n + 1 ≤ length bytes

@@ -285,10 +285,10 @@ pub takes-kept : (old : FieldState) (f : ReaderState Row) (at limit : ℕ) (with
 takes-kept old f at limit within w field view kept value lent same text e n finds lends some comma =
     let new : FieldState = record { state = taken_by f (at + n); within = w; field = lent_bytes lent f.ahead value; limit = limit } in
     subst (λ (o : FieldState). Finds o.state.ended o.limit o.state.ahead text (found.Field e n)
-        → (o.within ≡ false → o.state.ended ≡ true → o.state.ahead ≢ []) → TakesField o e new) view
+    → (o.within ≡ false → o.state.ended ≡ true → o.state.ahead ≢ []) → TakesField o e new) view
     (λ finds some. takes-field (record { state = taken_by f at; within = within; field = field; limit = limit }) new text e n finds
-        (λ v is. subst (λ k. lent_bytes lent k value ≡ v) same (lends v (subst (λ k. IsValue (drop at k) text v) (sym same) is)))
-        some (taken-twice f at n) comma refl)
+    (λ v is. subst (λ k. lent_bytes lent k value ≡ v) same (lends v (subst (λ k. IsValue (drop at k) text v) (sym same) is)))
+    some (taken-twice f at n) comma refl)
     finds some
 
 -- what is found in the bytes of a reader is found in its state
