@@ -38,9 +38,7 @@ pub enum FieldError {
 /// ```
 /// let mut reader = FieldReader::new(alloc);
 /// ..
-/// while let Ok(Next::Value(ending)) = reader.read_next() {
-///     take(reader.field(), ending);
-/// }
+/// reader.end();
 /// ```
 #[derive(Drop)]
 pub struct FieldReader {
