@@ -21,26 +21,26 @@ use Rattle.format_resp_events.specs.declared.event_reader.EventError.TheVariants
 -- after bytes with events, where a relation says which, an array has begun that lacks that many
 -- replies: its first replies are whole, and these are the bytes and the events up to there. Each of
 -- its replies is as another relation says
-pub record SpellsBegun (before spells : List ℕ → List ReplyEvent → Type 0) (lacks : ℕ) (bytes : List ℕ) (events : List ReplyEvent) : Type 0 where
+pub record SpellsBegun (before spells : List ℕ → List ReplyEvent → Type 0) (left : ℕ) (bytes : List ℕ) (events : List ReplyEvent) : Type 0 where
   pub outer : List ℕ
   pub given : List ReplyEvent
   pub ahead : before outer given
   pub has : ℕ
   pub text : List ℕ
-  pub number : IsLength greatest_count text (Some (has + lacks))
+  pub number : IsLength greatest_count text (Some (has + left))
   pub more : List ℕ
   pub inside : List ReplyEvent
   pub row : SpellsRow spells has more inside
   pub whole : bytes ≡ outer ++ 42 ∷ (line text ++ more)
-  pub told : events ≡ given ++ event.StartArray (has + lacks) ∷ inside
+  pub told : events ≡ given ++ event.StartArray (has + left) ∷ inside
 
 -- the bytes are whole replies, and then the beginnings of arrays, one in the other, of which each
 -- lacks that many replies, the innermost first; and these are their events. An array that stands in
 -- as many as are allowed has no replies
 abbrev pub AreBegun : ℕ → ℕ → List ℕ → List ℕ → List ReplyEvent → Type 0
 AreBegun longest depth [] bytes events = AreReplies longest depth bytes events
-AreBegun longest depth (n ∷ open) bytes events = IsDue open × (0 < n → length open < depth)
-    × SpellsBegun (AreBegun longest depth open) (SpellsInside longest (depth - length open)) n bytes events
+AreBegun longest depth (n ∷ lacks) bytes events = IsDue lacks × (0 < n → length lacks < depth)
+    × SpellsBegun (AreBegun longest depth lacks) (SpellsInside longest (depth - length lacks)) n bytes events
 
 -- ---- The reader
 
@@ -119,7 +119,7 @@ BreaksAt r place cause = BreaksWithin (r.depth - length r.open_arrays) r.replies
 -- what a reader answers at the end of an input of this length, with these arrays open
 abbrev pub end_answer : List ℕ → ℕ → Result (Next ReplyEvent) EventError
 end_answer [] fed = Ok next.Done
-end_answer (n ∷ open) fed = Err (error.Damaged fed EndsInside)
+end_answer (n ∷ lacks) fed = Err (error.Damaged fed EndsInside)
 
 -- the input has ended, nothing of it remains, and no array is open
 abbrev pub IsWhole : EventState → Type 0

@@ -70,7 +70,7 @@ impl Model for EventReader {
 // Takes a whole reply, whose array, if it is one, has no replies. Room is made before.
 fn take(open: &mut OpenArrays, reply: Reply) -> ReplyEvent
     requires { vec_len open.old.lacks < vec_capacity open.old.lacks }
-    ensures open { lacks_of open.new ≡ after_head (out-Reply reply) (lacks_of open.old) }
+    ensures lacks { lacks_of open.new ≡ after_head (out-Reply reply) (lacks_of open.old) }
     ensures event { result ≡ first_event (out-Reply reply) }
 {
     if matches!(reply, Reply::Array(_)) {
@@ -148,7 +148,7 @@ impl EventReader {
         ensures keeps { KeepsLimits self.old self.new }
         ensures answer { IsNext self.old result self.new }
     {
-        if self.open.innermost() == Some(0) {
+        if !self.open.is_due() {
             self.open.end_array();
             return Ok(Next::Value(ReplyEvent::EndArray));
         }

@@ -1,13 +1,14 @@
 //! The head of a reply: a whole reply, if it is no array with replies in it, or the line with which
 //! an array begins.
 
-ghost use Rattle.std.specs.Prelude.{◌≡◌, ◌<◌, ◌^◌, ◌×◌, ℕ, decimal};
+ghost use Rattle.std.specs.Prelude.{◌≡◌, ◌<◌, ◌≤◌, ◌^◌, ℕ, length, decimal};
 ghost use Rattle.winnow.specs.Answering.{FailsAt};
+ghost use Rattle.format_resp.specs.Language.{is_in_line};
+ghost use Rattle.format_resp.specs.Parts.{text_width};
 ghost use Rattle.format_resp_events.specs.Heads.{BeginsArray, IsArrayHead, IsHead, BreaksWithin};
 
 use crate::EventError;
 use format_resp::{Cause, Reply, ReplyTo, cause_of};
-use memchr::memchr;
 use winnow::reader::{Next, ReadError, Record};
 use winnow::scan::ScanReader;
 
@@ -88,17 +89,31 @@ struct ArrayHead {
     width: usize,
 }
 
+// Returns whether a byte may stand in a line.
+fn is_in_line(byte: u8) -> bool
+    ensures { result ≡ is_in_line byte }
+{
+    !(byte == b'\r' || byte == b'\n')
+}
+
+// Returns the number of bytes before the first carriage return or newline.
+fn text_width(bytes: &[u8]) -> usize
+    ensures width { result ≡ text_width bytes.now }
+    ensures within { result ≤ length bytes.now }
+{
+    bytes.iter().take_while(|byte| is_in_line(**byte)).count()
+}
+
 // Returns the line with which the array begins that is ahead.
 fn array_head(ahead: &[u8]) -> ArrayHead
     requires { BeginsArray ahead.now }
     ensures { IsArrayHead ahead.now result }
 {
-    let Some(end) = memchr(b'\r', ahead) else {
-        unreachable!()
-    };
+    let after = &ahead[1..];
+    let width = text_width(after);
     ArrayHead {
-        count: count_in(&ahead[1..end]),
-        width: end + 2,
+        count: count_in(&after[..width]),
+        width: width + 3,
     }
 }
 

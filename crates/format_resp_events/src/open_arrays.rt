@@ -1,7 +1,7 @@
 //! `OpenArrays`: the replies that open arrays lack.
 
 ghost use Rattle.std.specs.Prelude.{◌≡◌, ◌∷◌, ◌<◌, [], length, vec_len, vec_capacity, OnOk};
-ghost use Rattle.format_resp_events.specs.OpenArrays.{lacks_of, first_of, after_reply, after_array};
+ghost use Rattle.format_resp_events.specs.OpenArrays.{lacks_of, is_due, after_reply, after_array};
 
 use std::alloc::{AllocError, Global};
 
@@ -29,11 +29,15 @@ impl OpenArrays {
         self.lacks.len()
     }
 
-    /// Returns how many replies the innermost array lacks, if one is open.
-    pub(crate) fn innermost(&self) -> Option<usize>
-        ensures { result ≡ first_of (lacks_of self.now) }
+    /// Returns whether a reply is due: no array is open, or the innermost one lacks replies.
+    pub(crate) fn is_due(&self) -> bool
+        ensures { result ≡ is_due (lacks_of self.now) }
     {
-        self.lacks.last().copied()
+        let count = self.lacks.len();
+        if count == 0 {
+            return true;
+        }
+        self.lacks[count - 1] > 0
     }
 
     /// Makes room for one more array.
@@ -58,8 +62,9 @@ impl OpenArrays {
     pub(crate) fn end_reply(&mut self)
         ensures { lacks_of self.new ≡ after_reply (lacks_of self.old) }
     {
-        if let Some(lacks) = self.lacks.last_mut() {
-            *lacks = lacks.saturating_sub(1);
+        let count = self.lacks.len();
+        if count > 0 {
+            self.lacks[count - 1] = self.lacks[count - 1].saturating_sub(1);
         }
     }
 
