@@ -1,8 +1,8 @@
 -- The head of a reply: the whole of one that is no array with replies in it, or the line with which
 -- an array begins.
-use Rattle.std.specs.Prelude.{◌≡◌, ℕ, ◌+◌, ◌-◌, Bool, true, false, List, ◌∷◌, ◌++◌, length, drop, Some, Result, Ok, Err}
+use Rattle.std.specs.Prelude.{◌≡◌, ℕ, ◌+◌, ◌-◌, ◌≤◌, Bool, true, false, List, ◌∷◌, ◌++◌, length, drop, Some, Result, Ok, Err}
 use Rattle.winnow_stream.specs.Source.{units}
-use Rattle.winnow.specs.State.{ReaderState, waiting_for}
+use Rattle.winnow.specs.State.{ReaderState, waiting_for, fed_of}
 use Rattle.winnow.specs.Reading.{MayFollow}
 use Rattle.winnow.specs.SameValues.{IsThrough}
 use Rattle.format_resp.specs.Language.{line, IsLength, greatest_count, Spells}
@@ -34,12 +34,14 @@ pub record Passes (old : ReaderState ReplyTo) (bytes : List ℕ) (new : ReaderSt
   pub parser : new.parser ≡ old.parser
   pub ended : new.ended ≡ old.ended
 
--- no matter what follows what is ahead, a reply breaks off at the place for this cause, within this
--- limit on depth: no reply begins there, or one does that `read_reply` finds damaged
+-- a reply breaks off at the place, among the bytes that are ahead or after them, for this cause
+-- within this limit on depth, no matter what follows: no reply begins there, or one does that
+-- `read_reply` finds damaged
 abbrev pub BreaksWithin : ℕ → ReaderState ReplyTo → ℕ → Cause → Type 0
-BreaksWithin depth f place cause = (more : List ℕ) (partial : Bool) → MayFollow f.ended more partial
+BreaksWithin depth f place cause = (f.place ≤ place) × (place ≤ fed_of f)
+    × ((more : List ℕ) (partial : Bool) → MayFollow f.ended more partial
     → IsSettled partial cause × IsDamaged f.parser.longest depth cause
-    (units (f.ahead ++ more)) (units (drop (place - f.place) (f.ahead ++ more)))
+    (units (f.ahead ++ more)) (units (drop (place - f.place) (f.ahead ++ more))))
 
 -- the head that is ahead of the one reader, which the other has passed; or that its bytes are not
 -- there yet; or the end, with nothing left; or the reply breaks off, within each limit on depth, of

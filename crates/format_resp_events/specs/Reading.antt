@@ -1,5 +1,5 @@
 -- What a reader of events has given of the joined input.
-use Rattle.std.specs.Prelude.{◌≡◌, ℕ, ◌+◌, ◌-◌, ◌<◌, ◌≤◌, Bool, true, false, List, [], ◌∷◌, ◌++◌, length, drop, Some, Result, Ok, Err, suc}
+use Rattle.std.specs.Prelude.{◌≡◌, ℕ, ◌+◌, ◌-◌, ◌<◌, ◌≤◌, Bool, true, false, List, [], ◌∷◌, ◌++◌, length, drop, Some, Result, Ok, Err, ◌⊎◌}
 use Rattle.winnow.specs.State.{ReaderState, at_start, pushed, unspent, ended_after, waiting_for}
 use Rattle.winnow.specs.SameValues.{IsThrough}
 use Rattle.winnow_reader.specs.declared.next.Next.{Next}
@@ -125,10 +125,15 @@ end_answer (n ∷ lacks) fed = Err (error.Damaged fed EndsInside)
 abbrev pub IsWhole : EventState → Type 0
 IsWhole r = IsThrough r.replies × (r.open_arrays ≡ [])
 
--- what the reader answers: an event; or more is needed, and the input goes on; or done, where it is
+-- the reader goes on: it takes bytes, or closes an array
+abbrev pub Advances : EventState → EventState → Type 0
+Advances old new = (length new.replies.ahead < length old.replies.ahead)
+    ⊎ ((new.replies ≡ old.replies) × (length new.open_arrays < length old.open_arrays))
+
+-- what the reader answers: an event, and it goes on; or more is needed, and the input goes on; or done, where it is
 -- whole; or the reply that is due breaks off, no matter what follows, and nothing changes
 abbrev pub IsNext : EventState → Result (Next ReplyEvent) EventError → EventState → Type 0
-IsNext old (Ok (next.Value event)) new = IsDue old.open_arrays
+IsNext old (Ok (next.Value event)) new = Advances old new
 IsNext old (Ok next.NeedsMore) new =
     (old.replies.ended ≡ false) × (new ≡ events_waiting old new.replies.wanted)
 IsNext old (Ok next.Done) new = IsWhole old × (new ≡ old)

@@ -63,7 +63,10 @@ fn array_or_damage(
     ensures head { IsHead deep replies.old result replies.new }
 {
     let cause = cause_at(replies, place);
-    if deep || cause != Cause::TooDeep {
+    if cause != Cause::TooDeep {
+        return Err(EventError::Damaged { place, cause });
+    }
+    if deep {
         return Err(EventError::Damaged { place, cause });
     }
     let head = array_head(replies.ahead());

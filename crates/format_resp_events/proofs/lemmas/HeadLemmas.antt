@@ -2,7 +2,7 @@
 use Rattle.std.proofs.Common.{◌≡◌, ℕ, zero, suc, ◌+◌, ◌-◌, ◌<◌, ◌≤◌, Bool, true, false, not, List, [], ◌∷◌, ◌++◌, length, take, drop, min, refl, ap, sym, ◌∙◌, subst, inl, inr, arith}
 use Rattle.std.specs.Prelude.{◌⊎◌, Option, Some, None}
 use Rattle.std.specs.Borrow.{Bor}
-use Rattle.std.proofs.lemmas.List.{append-nil, length-append, length-drop, take-append-drop, drop-append-le, map-append}
+use Rattle.std.proofs.lemmas.List.{append-nil, length-append, length-drop, take_rest, take-append-drop, drop-append-le, map-append}
 use Rattle.std.proofs.lemmas.Option.{same_Some}
 use Rattle.winnow_stream.specs.Source.{Source, units, width}
 use Rattle.winnow_stream.specs.Units.{HasPositiveWidths-units}
@@ -146,9 +146,11 @@ module _ (f : ReaderState ReplyTo) (there : ℕ) (told : Cause) (h : FailsAt Rea
       cause-stays f.parser.longest f.parser.depth (units f.ahead) (units h.0) (units more) now.0 d.0 other now.1.1 two
       ∙ sym told-now
 
-  -- the reply breaks off there for the cause that is told, whatever follows
-  pub breaks-within : BreaksWithin f.parser.depth f there told
-  breaks-within more partial may =
+  -- what is ahead breaks off there for the cause that is told, whatever follows
+  breaks-on : (more : List ℕ) (partial : Bool) → MayFollow f.ended more partial
+      → IsSettled partial told × IsDamaged f.parser.longest f.parser.depth told
+      (units (f.ahead ++ more)) (units (drop (there - f.place) (f.ahead ++ more)))
+  breaks-on more partial may =
       let d = damage-here f there h more partial may in
       let l = leaves f there h in
       let rest : h.0 ++ more ≡ drop (there - f.place) (f.ahead ++ more) =
@@ -156,6 +158,25 @@ module _ (f : ReaderState ReplyTo) (there : ℕ) (told : Cause) (h : FailsAt Rea
       let one = subst (λ xs. IsDamaged f.parser.longest f.parser.depth d.0 (units (f.ahead ++ more)) (units xs)) rest d.1.1 in
       subst (λ c. IsSettled partial c × IsDamaged f.parser.longest f.parser.depth c (units (f.ahead ++ more)) (units (drop (there - f.place) (f.ahead ++ more))))
       (told-then f.ended refl more partial may) (d.1.0, one)
+
+  -- so the reply breaks off there
+  pub breaks-within : BreaksWithin f.parser.depth f there told
+  breaks-within = (
+    fails-before f there h,
+    omega (arith, fails-before f there h, fails-inside f there h),
+    breaks-on,
+  )
+
+-- the cause that is told of what is on both sides of a place
+pub cause-here : (told : Cause) (k width : ℕ) (bytes ahead : List ℕ) → bytes ≡ ahead → width ≡ k
+    → IsCauseOf told (take width bytes) (take (length bytes - width) (drop width bytes))
+    → IsCauseOf told (take k ahead) (drop k ahead)
+cause-here told k width bytes ahead same e h =
+    let front : take width bytes ≡ take k ahead = ap (λ n. take n bytes) e ∙ ap (take k) same in
+    let back : take (length bytes - width) (drop width bytes) ≡ drop k ahead =
+        take_rest bytes width ∙ ap (λ n. drop n bytes) e ∙ ap (drop k) same in
+    subst (λ r. IsCauseOf told (take k ahead) r) back
+    (subst (λ b. IsCauseOf told b (take (length bytes - width) (drop width bytes))) front h)
 
 -- ---- Damage that is the same at each depth
 
@@ -191,9 +212,9 @@ deeper longest (suc depth) cause whole rest other (inr (kind, (after, (is, stand
 -- so does what a reader has ahead, whatever follows
 pub breaks-deeper : (f : ReaderState ReplyTo) (place depth : ℕ) (cause : Cause)
     → ¬ (cause ≡ TooDeep) → BreaksWithin 0 f place cause → BreaksWithin depth f place cause
-breaks-deeper f place depth cause other h more partial may =
+breaks-deeper f place depth cause other (before, within, h) = (before, within, λ more partial may.
     let k = h more partial may in
-    (k.0, deeper f.parser.longest depth cause (units (f.ahead ++ more)) (units (drop (place - f.place) (f.ahead ++ more))) other k.1)
+    (k.0, deeper f.parser.longest depth cause (units (f.ahead ++ more)) (units (drop (place - f.place) (f.ahead ++ more))) other k.1))
 
 -- ---- Arrays with replies
 
@@ -240,7 +261,7 @@ deep-begins longest bytes rest (inr (kind, (after, (is, stands, body)))) =
 -- so is what a reader has ahead
 pub breaks-begins : (f : ReaderState ReplyTo) (place : ℕ) → BreaksWithin 0 f place TooDeep
     → BeginsArray f.ahead
-breaks-begins f place h =
+breaks-begins f place (before, within, h) =
     let k = (h [] (not f.ended) (may-none f.ended)).1 in
     let here = subst (λ xs. IsDamaged f.parser.longest 0 TooDeep (units xs) (units (drop (place - f.place) (f.ahead ++ [])))) (append-nil f.ahead) k in
     deep-begins f.parser.longest f.ahead (units (drop (place - f.place) (f.ahead ++ []))) here
