@@ -35,6 +35,18 @@ first_event NullBulk = event.NullBulk
 first_event (Array replies) = event.StartArray 0
 first_event NullArray = event.NullArray
 
+-- the events are of one kind, with the same number or bytes, though they lie elsewhere in memory
+abbrev pub SameEvent : ReplyEvent → ReplyEvent → Type 0
+SameEvent (event.StartArray n) (event.StartArray m) = n ≡ m
+SameEvent event.EndArray event.EndArray = ⊤
+SameEvent (event.Simple v) (event.Simple w) = v.items ≡ w.items
+SameEvent (event.Error v) (event.Error w) = v.items ≡ w.items
+SameEvent (event.Integer n) (event.Integer m) = n ≡ m
+SameEvent (event.Bulk v) (event.Bulk w) = v.items ≡ w.items
+SameEvent event.NullBulk event.NullBulk = ⊤
+SameEvent event.NullArray event.NullArray = ⊤
+SameEvent x y = ⊥
+
 -- ---- The bytes of events
 
 -- the bytes spell the reply, no array, that the event is

@@ -1,4 +1,25 @@
-//! The laws of events.
+//! The law of events: what they stand for, and of which replies they are.
+
+ghost use Rattle.std.specs.Prelude.{◌≡◌, ℕ, List, ◌++◌};
+ghost use Rattle.std.specs.List.{flat_map};
+ghost use Rattle.format_resp.specs.Language.{SpellAll, Spells};
+ghost use Rattle.format_resp_events.specs.Events.{AreReplies, events_of};
+ghost use Rattle.format_resp_events.specs.Written.{events_written};
+ghost use Rattle.format_resp_events.specs.Reading.{EventState, HasGiven, IsWhole, longest_of};
+ghost use Rattle.format_resp.specs.declared.reply.Reply.{Reply};
+ghost use Rattle.format_resp_events.specs.declared.event.ReplyEvent.{ReplyEvent};
 
 /// The law of a reader of events. It does nothing when called: its contract is the law.
-pub fn events_law() {}
+///
+/// The bytes that a reader has passed are those that its events stand for, one after the other. A
+/// reader is done only if the input is replies within the limits, one after the other, and the
+/// events are theirs. The bytes that spell such replies have their events.
+pub fn events_law()
+    ensures passed { (r : EventState) (input : List ℕ) (events : List ReplyEvent)
+        → HasGiven r input events → input ≡ events_written events ++ r.replies.ahead }
+    ensures whole { (r : EventState) (input : List ℕ) (events : List ReplyEvent)
+        → HasGiven r input events → IsWhole r → AreReplies (longest_of r) r.depth input events }
+    ensures spelled { (longest depth : ℕ) (replies : List Reply) (bytes : List ℕ)
+        → SpellAll (Spells longest depth) replies bytes
+        → AreReplies longest depth bytes (flat_map events_of replies) }
+{}

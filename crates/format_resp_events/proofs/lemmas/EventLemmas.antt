@@ -68,7 +68,7 @@ inside-at longest m k bytes events e h =
 -- ---- What has begun
 
 -- an array that lacks replies lacks some
-due-some : (n : ℕ) (lacks : List ℕ) → IsDue (n ∷ lacks) → 0 < n
+pub due-some : (n : ℕ) (lacks : List ℕ) → IsDue (n ∷ lacks) → 0 < n
 due-some n lacks h = grind (arith, nat_tests, h)
 
 -- if none is due, an array is open that lacks none

@@ -2,7 +2,7 @@
 use Rattle.std.proofs.Common.{◌≡◌, ℕ, zero, suc, ◌+◌, ◌-◌, ◌<◌, ◌≤◌, Bool, true, false, List, [], ◌∷◌, ◌++◌, length, drop, Some, true≢false, refl, ap, sym, ◌∙◌, subst, inl, inr, arith, append_assoc}
 use Rattle.std.specs.Prelude.{◌⊎◌, Result, Ok, Err}
 use Rattle.std.proofs.lemmas.List.{append-nil, length-append}
-use Rattle.winnow_reader.specs.State.{ReaderState, fed_of}
+use Rattle.winnow_reader.specs.State.{ReaderState, pushed, waiting_for, fed_of}
 use Rattle.winnow_reader.specs.Reading.{MayFollow}
 use Rattle.winnow_reader.specs.SameValues.{IsThrough}
 use Rattle.winnow_stream.specs.Source.{units}
@@ -16,11 +16,14 @@ use Rattle.format_resp.specs.declared.grammar.ReplyTo.{ReplyTo}
 use Rattle.format_resp.specs.declared.reply.Reply.{Reply}
 use Rattle.format_resp.specs.declared.reply.Reply.TheViews.{out-Reply}
 use Rattle.format_resp_events.specs.Events.{first_event}
-use Rattle.format_resp_events.specs.Heads.{Passes, BreaksWithin}
+use Rattle.format_resp_events.specs.Heads.{Passes, BreaksWithin, IsHead}
 use Rattle.format_resp_events.specs.OpenArrays.{is_due, IsDue, after_reply, after_array, after_head}
-use Rattle.format_resp_events.specs.Reading.{EventState, longest_of, AreBegun, HasGiven, GivesOn, KeepsLimits, Advances, BreaksAt}
+use Rattle.format_resp_events.specs.Reading.{EventState, longest_of, AreBegun, HasGiven, GivesAlso, GivesOn, KeepsLimits, Advances, BreaksAt, next_events, end_answer, IsNext}
 use Rattle.format_resp_events.specs.declared.event.ReplyEvent.{ReplyEvent}
 use Rattle.format_resp_events.specs.declared.event.ReplyEvent.TheVariants as event
+use Rattle.format_resp_events.specs.declared.event_reader.EventError.{EventError}
+use Rattle.format_resp_events.specs.declared.event_reader.EventError.TheVariants as error
+use Rattle.winnow_reader.specs.declared.next.Next.TheVariants as next
 use Rattle.format_resp_events.proofs.lemmas.EventLemmas.{not-due, begun-end, begun-array, begun-head}
 
 -- a reader with this reader of replies, and arrays that lack so many
@@ -40,6 +43,28 @@ gives-same old replies lacks ahead place parser same input before h = record {
   begun = subst (λ events. AreBegun replies.parser.longest old.depth lacks h.bytes events) (sym (append-nil before))
       (subst (λ l. AreBegun replies.parser.longest old.depth l h.bytes before) (sym same)
       (subst (λ (r : ReplyTo). AreBegun r.longest old.depth old.open_arrays h.bytes before) (sym parser) h.begun));
+}
+
+-- at the start nothing was given
+pub gives-none : (r : EventState) → r.replies.ahead ≡ [] → r.replies.place ≡ 0
+    → r.open_arrays ≡ [] → HasGiven r [] []
+gives-none r ahead place closed = record {
+  bytes = [];
+  whole = sym ahead;
+  place = place;
+  begun = subst (λ l. AreBegun (longest_of r) r.depth l [] []) (sym closed) (0, (refl, refl));
+}
+
+-- with a piece more the same was given
+pub gives-pushed : (old : EventState) (replies : ReaderState ReplyTo) (piece : List ℕ)
+    → replies ≡ pushed old.replies piece
+    → GivesAlso old piece (reader_at old replies old.open_arrays)
+gives-pushed old replies piece e input events h = record {
+  bytes = h.bytes;
+  whole = ap (λ t. t ++ piece) h.whole ∙ append_assoc h.bytes old.replies.ahead piece
+      ∙ ap (λ (f : ReaderState ReplyTo). h.bytes ++ f.ahead) (sym e);
+  place = ap (λ (f : ReaderState ReplyTo). f.place) e ∙ h.place;
+  begun = subst (λ (f : ReaderState ReplyTo). AreBegun f.parser.longest old.depth old.open_arrays h.bytes events) (sym e) h.begun;
 }
 
 -- an array ended
@@ -147,3 +172,49 @@ breaks-end f depth place (ended, none) at = (
       none-left f.parser.longest depth (place - f.place) (f.ahead ++ more) (ap (λ l. l ++ more) none ∙ both.0),
     ),
 )
+
+-- ---- Answers
+
+-- at the end nothing is given
+pub end-none : (lacks : List ℕ) (fed : ℕ) → next_events (end_answer lacks fed) ≡ []
+end-none [] fed = refl
+end-none (n ∷ lacks) fed = refl
+
+-- at the end the input is whole, or a reply that is due breaks off
+pub next-end : (old : EventState) (replies : ReaderState ReplyTo) (lacks : List ℕ) (fed : ℕ)
+    → replies ≡ old.replies → lacks ≡ old.open_arrays → IsThrough old.replies
+    → fed ≡ fed_of old.replies → IsNext old (end_answer lacks fed) (reader_at old replies lacks)
+next-end old replies [] fed same e through at =
+    ((through, sym e), ap (λ f. reader_at old f []) same ∙ ap (reader_at old old.replies) e)
+next-end old replies (n ∷ lacks) fed same e through at = (
+  breaks-end old.replies (old.depth - length old.open_arrays) fed through at,
+  ap (λ f. reader_at old f (n ∷ lacks)) same ∙ ap (reader_at old old.replies) e,
+)
+
+-- where no head is, the reply that is due breaks off, or memory was refused
+pub next-failed : (old : EventState) (replies : ReaderState ReplyTo) (lacks : List ℕ) (deep : Bool)
+    (e : EventError) → IsHead deep old.replies (Err e) replies → lacks ≡ old.open_arrays
+    → (deep ≡ true → old.depth ≤ length old.open_arrays)
+    → IsNext old (Err e) (reader_at old replies lacks)
+next-failed old replies lacks deep (error.Damaged place cause) (same, breaks) e within = (
+  breaks (old.depth - length old.open_arrays) (λ is. omega (arith, within is)),
+  ap (λ f. reader_at old f lacks) same ∙ ap (reader_at old old.replies) e,
+)
+next-failed old replies lacks deep (error.Refused r) same e within =
+    ap (λ f. reader_at old f lacks) same ∙ ap (reader_at old old.replies) e
+
+-- where more is needed, only how many bytes are wanted changes
+pub next-waits : (old : EventState) (replies : ReaderState ReplyTo) (lacks : List ℕ)
+    → old.replies.ended ≡ false → replies ≡ waiting_for old.replies replies.wanted
+    → lacks ≡ old.open_arrays → IsNext old (Ok next.NeedsMore) (reader_at old replies lacks)
+next-waits old replies lacks goes same e = (
+  goes,
+  ap (λ f. reader_at old f lacks) same ∙ ap (reader_at old (waiting_for old.replies replies.wanted)) e,
+)
+
+-- where nothing was taken, the limits are the same
+pub keeps-same : (old : EventState) (replies : ReaderState ReplyTo) (lacks : List ℕ)
+    → replies.parser ≡ old.replies.parser → replies.ended ≡ old.replies.ended
+    → KeepsLimits old (reader_at old replies lacks)
+keeps-same old replies lacks parser ended =
+    (ap (λ (r : ReplyTo). r.longest) parser, refl, ended)

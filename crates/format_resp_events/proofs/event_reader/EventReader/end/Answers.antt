@@ -1,0 +1,6 @@
+use Rattle.std.proofs.Common.{refl, sym, subst}
+use Rattle.format_resp_events.proofs.event_reader.EventReader.end.Goals as goal
+use Rattle.format_resp_events.proofs.lemmas.TurnLemmas.{gives-same}
+
+pub returns-clause-read : goal.returns-clause-read
+returns-clause-read c = ?
