@@ -32,8 +32,8 @@ pub(crate) fn next_head(
     replies: &mut ScanReader<ReplyTo>,
     deep: bool,
 ) -> Result<Head, EventError>
-    requires flat { replies.old.parser.depth ≡ 0 }
-    ensures head { IsHead deep replies.old result replies.new }
+    requires { replies.old.parser.depth ≡ 0 }
+    ensures { IsHead deep replies.old result replies.new }
 {
     match replies.read_next() {
         Ok(Next::Value(reply)) => Ok(Head::Whole(reply)),
@@ -60,12 +60,12 @@ fn array_or_damage(
 ) -> Result<Head, EventError>
     requires flat { replies.old.parser.depth ≡ 0 }
     requires fails { FailsAt ⟦<ReplyTo as Record>⟧.means replies.old place }
-    ensures head { IsHead deep replies.old result replies.new }
+    ensures { IsHead deep replies.old result replies.new }
 {
     let cause = cause_at(replies, place);
-    if cause != Cause::TooDeep {
+    let Cause::TooDeep = cause else {
         return Err(EventError::Damaged { place, cause });
-    }
+    };
     if deep {
         return Err(EventError::Damaged { place, cause });
     }
@@ -80,7 +80,7 @@ fn cause_at(replies: &ScanReader<ReplyTo>, place: usize) -> Cause
     ensures { BreaksWithin replies.now.parser.depth replies.now place result }
 {
     let ahead = replies.ahead();
-    let width = place - replies.place();
+    let width = place.saturating_sub(replies.place()).min(ahead.len());
     cause_of(&ahead[..width], &ahead[width..])
 }
 

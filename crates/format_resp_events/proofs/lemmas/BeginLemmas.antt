@@ -62,7 +62,8 @@ module _ (spells : List ℕ → List ReplyEvent → Type 0) (one : IsOnce spells
 -- in an array too the bytes have their events alone
 inside-once : (longest depth : ℕ) → IsOnce (SpellsInside longest depth)
 inside-once longest zero s t q r es fs a b same = absurd a
-inside-once longest (suc depth) = reply-once longest depth
+inside-once longest (suc depth) s t q r es fs a b same =
+    reply-once longest depth s t q r es fs a b same
 
 -- whole replies go on after fewer
 top-front : (longest depth n m : ℕ) (s t q : List ℕ) (es fs : List ReplyEvent)

@@ -194,8 +194,8 @@ body-deeper longest depth kind cause whole rest other (inr (inl h)) = inr (inl h
 body-deeper longest depth kind cause whole rest other (inr (inr (inl h))) = inr (inr (inl h))
 body-deeper longest depth kind cause whole rest other (inr (inr (inr (k, inl (inl h))))) =
     inr (inr (inr (k, inl (inl h))))
-body-deeper longest depth kind cause whole rest other (inr (inr (inr (k, inl (inr (same, (text, (end, (a, fits, lacks, inl (no, none))))))))))  =
-    inr (inr (inr (k, inl (inr (same, (text, (end, (a, fits, none, inl (no, none)))))))))
+body-deeper longest depth kind cause whole rest other (inr (inr (inr (k, inl (inr (same, (text, (end, (a, fits, lacks, inl (wrong, none))))))))))  =
+    inr (inr (inr (k, inl (inr (same, (text, (end, (a, fits, none, inl (wrong, none)))))))))
 body-deeper longest depth kind cause whole rest other (inr (inr (inr (k, inl (inr (same, (text, (end, (a, fits, lacks, inr (deep, n)))))))))) =
     absurd (other deep)
 body-deeper longest depth kind cause whole rest other (inr (inr (inr (k, inr (text, (count, (after, (is, a, (replies, (bytes, (next, (b, all, fewer, never)))))))))))) =
@@ -231,18 +231,18 @@ deep-line longest bytes whole rest kind stands (inr (inl (k, inr (same, (text, (
     absurd (cc cause)
 deep-line longest bytes whole rest kind stands (inr (inr (inl (k, inl (inl (text, (end, (a, fits, over, (cause, lacks))))))))) =
     absurd (never-deep rest NoLineEnd (λ e. cc e) cause)
-deep-line longest bytes whole rest kind stands (inr (inr (inl (k, inl (inr (same, (text, (end, (a, fits, lacks, inl (no, none)))))))))) =
-    absurd (cc no)
+deep-line longest bytes whole rest kind stands (inr (inr (inl (k, inl (inr (same, (text, (end, (a, fits, lacks, inl (wrong, none)))))))))) =
+    absurd (cc wrong)
 deep-line longest bytes whole rest kind stands (inr (inr (inl (k, inl (inr (same, (text, (end, (a, fits, lacks, inr (long, n)))))))))) =
     absurd (cc long)
-deep-line longest bytes whole rest kind stands (inr (inr (inl (k, inr (text, (count, (after, (is, a, inl (ends, few)))))))))  =
-    absurd (cc ends.0)
+deep-line longest bytes whole rest kind stands (inr (inr (inl (k, inr (text, (count, (after, (is, a, inl (ends, few, none)))))))))  =
+    absurd (cc ends)
 deep-line longest bytes whole rest kind stands (inr (inr (inl (k, inr (text, (count, (after, (is, a, inr (held, (end, (b, n, (cause, lacks))))))))))))  =
     absurd (never-deep rest NoLineEnd (λ e. cc e) cause)
 deep-line longest bytes whole rest kind stands (inr (inr (inr (k, inl (inl (text, (end, (a, fits, over, (cause, lacks))))))))) =
     absurd (never-deep rest NoLineEnd (λ e. cc e) cause)
-deep-line longest bytes whole rest kind stands (inr (inr (inr (k, inl (inr (same, (text, (end, (a, fits, lacks, inl (no, none)))))))))) =
-    absurd (cc no)
+deep-line longest bytes whole rest kind stands (inr (inr (inr (k, inl (inr (same, (text, (end, (a, fits, lacks, inl (wrong, none)))))))))) =
+    absurd (cc wrong)
 deep-line longest bytes whole rest kind stands (inr (inr (inr (k, inl (inr (same, (text, (end, (a, fits, lacks, inr (deep, (n, is))))))))))) =
     let all = ahead-join (kind ∷ []) (line text) (units bytes) whole end stands a in
     let there = units-ahead bytes (kind ∷ line text) end all in
