@@ -3,7 +3,7 @@
 //! An [`EventReader`] returns the replies of an input one event after the other: each reply that is
 //! no array, and where each array begins and ends. It keeps no more than the longest text or bulk
 //! string, a piece, and a number for each array that is open. So a reply of any size and nesting is
-//! read in little memory, where a `ScanReader` of [`ReplyTo`](format_resp::ReplyTo) keeps all of it.
+//! read in little memory; a `ScanReader` of [`ReplyTo`](format_resp::ReplyTo) keeps all of it.
 //!
 //! The events are those of the replies in their order, and where a reply breaks off, the error has
 //! the place and the [`Cause`](format_resp::Cause), as [`events_law`] says.

@@ -21,6 +21,8 @@ use Rattle.format_resp_events.specs.OpenArrays.{is_due, IsDue, after_reply, afte
 use Rattle.format_resp_events.specs.Reading.{EventState, longest_of, AreBegun, HasGiven, GivesAlso, GivesOn, KeepsLimits, Advances, BreaksAt, next_events, end_answer, IsNext}
 use Rattle.format_resp_events.specs.declared.event.ReplyEvent.{ReplyEvent}
 use Rattle.format_resp_events.specs.declared.event.ReplyEvent.TheVariants as event
+use Rattle.format_resp_events.specs.declared.heads.Head.{Head}
+use Rattle.format_resp_events.specs.declared.heads.Head.TheVariants as head
 use Rattle.format_resp_events.specs.declared.event_reader.EventError.{EventError}
 use Rattle.format_resp_events.specs.declared.event_reader.EventError.TheVariants as error
 use Rattle.winnow_reader.specs.declared.next.Next.TheVariants as next
@@ -223,3 +225,23 @@ pub keeps-same : (old : EventState) (replies : ReaderState ReplyTo) (lacks : Lis
     → KeepsLimits old (reader_at old replies lacks)
 keeps-same old replies lacks parser ended =
     (ap (λ (r : ReplyTo). r.longest) parser, refl, ended)
+
+-- ---- Heads
+
+-- a whole reply is what was passed
+pub head-whole : (deep : Bool) (old new : ReaderState ReplyTo) (result : Result Head EventError)
+    (y : Reply) → result ≡ Ok (head.Whole y) → IsHead deep old result new
+    → (bytes : List ℕ) × (Passes old bytes new × Spells old.parser.longest 0 y bytes)
+head-whole deep old new result y e h = subst (λ r. IsHead deep old r new) e h
+
+-- so is the line of an array, where one may stand
+pub head-array : (deep : Bool) (old new : ReaderState ReplyTo) (result : Result Head EventError)
+    (n : ℕ) → result ≡ Ok (head.Array n) → IsHead deep old result new
+    → (deep ≡ false) × ((text : List ℕ)
+    × (Passes old (42 ∷ line text) new × IsLength greatest_count text (Some n)))
+head-array deep old new result n e h = subst (λ r. IsHead deep old r new) e h
+
+-- where there is none, the error says why
+pub head-failed : (deep : Bool) (old new : ReaderState ReplyTo) (result : Result Head EventError)
+    (e : EventError) → result ≡ Err e → IsHead deep old result new → IsHead deep old (Err e) new
+head-failed deep old new result e is h = subst (λ r. IsHead deep old r new) is h
