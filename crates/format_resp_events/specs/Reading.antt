@@ -130,8 +130,9 @@ abbrev pub Advances : EventState → EventState → Type 0
 Advances old new = (length new.replies.ahead < length old.replies.ahead)
     ⊎ ((new.replies ≡ old.replies) × (length new.open_arrays < length old.open_arrays))
 
--- what the reader answers: an event, and it goes on; or more is needed, and the input goes on; or done, where it is
--- whole; or the reply that is due breaks off, no matter what follows, and nothing changes
+-- what the reader answers: an event, and it goes on; or more is needed, and the input goes on; or
+-- done, where it is whole; or the reply that is due breaks off, no matter what follows, and nothing
+-- changes
 abbrev pub IsNext : EventState → Result (Next ReplyEvent) EventError → EventState → Type 0
 IsNext old (Ok (next.Value event)) new = Advances old new
 IsNext old (Ok next.NeedsMore) new =

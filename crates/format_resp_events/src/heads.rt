@@ -28,10 +28,7 @@ pub(crate) enum Head {
 /// Takes the head of the next reply, if its bytes are there. `deep` says that an array with replies
 /// in it may not stand there. The reader is one of replies that stand in no array: it finds such an
 /// array too deep, and all else that it finds damaged is damaged anywhere.
-pub(crate) fn next_head(
-    replies: &mut ScanReader<ReplyTo>,
-    deep: bool,
-) -> Result<Head, EventError>
+pub(crate) fn next_head(replies: &mut ScanReader<ReplyTo>, deep: bool) -> Result<Head, EventError>
     requires { replies.old.parser.depth ≡ 0 }
     ensures { IsHead deep replies.old result replies.new }
 {

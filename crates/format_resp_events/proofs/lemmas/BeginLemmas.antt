@@ -114,11 +114,19 @@ first-left : (longest depth : ℕ) (lacks q : List ℕ) (es : List ReplyEvent) �
 first-left longest depth [] q es due some (zero, (none, e)) = absurd (some none)
 first-left longest depth [] q es due some (suc m, (s1, (s2, (e1, (e2, (sa, ea, h, row)))))) =
     let level : depth ≡ depth - 0 = omega arith in
-    record { one = s1; more = s2; first = e1; others = e2; bytes = sa; events = ea;
-      spells = subst (λ d. SpellsEvents longest d s1 e1) level h; left = (m, row) }
+    record {
+      one = s1;
+      more = s2;
+      first = e1;
+      others = e2;
+      bytes = sa;
+      events = ea;
+      spells = subst (λ d. SpellsEvents longest d s1 e1) level h;
+      left = (m, row);
+    }
 first-left longest depth (n ∷ lacks) q es due some (p, (r, (e, (f, (qa, ea, row, left))))) =
     let k = row-head (SpellsInside longest (depth - length lacks)) (inside-once longest (depth - length lacks)) (n - 0) p e
-        (omega (arith, due-some n lacks due)) row in
+    (omega (arith, due-some n lacks due)) row in
     let s1 = k.0 in
     let s2 = k.1.0 in
     let e1 = k.1.1.0 in
@@ -158,9 +166,9 @@ array-left longest d has n text more q one r inside fs is row h same =
           (scalar-first longest e one a) (array-first text (has + n) is) (sym same)).0)
       | inr b ↦
           let there : 42 ∷ line text ++ (more ++ q) ≡ 42 ∷ line b.text ++ (b.more ++ r) =
-              same ∙ ap (λ l. l ++ r) b.whole ∙ ap (λ l. 42 ∷ l) (append_assoc (line b.text) b.more r) in
+          same ∙ ap (λ l. l ++ r) b.whole ∙ ap (λ l. 42 ∷ l) (append_assoc (line b.text) b.more r) in
           let first = first-once (event.StartArray (has + n)) (event.StartArray b.count) (42 ∷ line text) (42 ∷ line b.text) (more ++ q) (b.more ++ r)
-              (array-first text (has + n) is) (array-first b.text b.count b.number) there in
+          (array-first text (has + n) is) (array-first b.text b.count b.number) there in
           let k = rows-front (SpellsInside longest d) (inside-once longest d) has n b.count (sym first.0) more b.more q r inside b.inside row b.row first.1 in
           let begins = k.1.1.1 in
           record {
@@ -185,21 +193,20 @@ begun-front longest depth [] s t q es fs (n, a) (m, b) same = top-front longest 
 begun-front longest depth (n ∷ lacks) s t q es fs (due, deep, b) all same =
     let array = 42 ∷ (line b.text ++ b.more) in
     let there : b.outer ++ (array ++ q) ≡ t =
-        sym (append_assoc b.outer array q) ∙ ap (λ l. l ++ q) (sym b.whole) ∙ same in
+    sym (append_assoc b.outer array q) ∙ ap (λ l. l ++ q) (sym b.whole) ∙ same in
     let before = begun-front longest depth lacks b.outer t (array ++ q) b.given fs b.ahead all there in
     let first = first-left longest depth lacks (array ++ q) before.0 due (λ e. cc e) before.1.1 in
     let rest = array-left longest (depth - length lacks) b.has n b.text b.more q first.one first.more b.inside first.first b.number b.row first.spells
-        (ap (λ l. 42 ∷ l) (sym (append_assoc (line b.text) b.more q)) ∙ first.bytes) in
+    (ap (λ l. 42 ∷ l) (sym (append_assoc (line b.text) b.more q)) ∙ first.bytes) in
     let count : n ≡ n - 0 = omega arith in
     let whole : before.0 ≡ rest.begins.front ++ (rest.rest ++ event.EndArray ∷ first.others) =
-        first.events ∙ ap (λ l. l ++ first.others) rest.begins.whole
-        ∙ append_assoc rest.begins.front (rest.rest ++ event.EndArray ∷ []) first.others
-        ∙ ap (λ l. rest.begins.front ++ l) (append_assoc rest.rest (event.EndArray ∷ []) first.others) in
-    (
+    first.events ∙ ap (λ l. l ++ first.others) rest.begins.whole
+    ∙ append_assoc rest.begins.front (rest.rest ++ event.EndArray ∷ []) first.others
+    ∙ ap (λ l. rest.begins.front ++ l) (append_assoc rest.rest (event.EndArray ∷ []) first.others) in (
       rest.rest ++ event.EndArray ∷ first.others,
       (
         begins-join es b.given (event.StartArray (b.has + n) ∷ b.inside) fs before.1.0.front before.0 (rest.rest ++ event.EndArray ∷ first.others)
-        b.told before.1.0.whole before.1.0.alike (record { front = rest.begins.front; alike = rest.begins.alike; whole = whole }),
+            b.told before.1.0.whole before.1.0.alike (record { front = rest.begins.front; alike = rest.begins.alike; whole = whole }),
         (rest.part, (first.more, (rest.rest, (first.others, (rest.bytes, refl, subst (λ c. SpellsRow (SpellsInside longest (depth - length lacks)) c rest.part rest.rest) count rest.row, first.left))))),
       ),
     )

@@ -21,21 +21,39 @@ module _ (spells : List ℕ → List ReplyEvent → Type 0) where
       → SpellsRow spells (suc n) (bytes ++ one) (events ++ first)
   row-more zero bytes one events first (b, e) h = (
     one,
-    ([], (first, ([], (
-      ap (λ t. t ++ one) b ∙ sym (append-nil one),
-      ap (λ t. t ++ first) e ∙ sym (append-nil first),
-      h,
-      (refl, refl),
-    )))),
+    (
+      [],
+      (
+        first,
+        (
+          [],
+          (
+            ap (λ t. t ++ one) b ∙ sym (append-nil one),
+            ap (λ t. t ++ first) e ∙ sym (append-nil first),
+            h,
+            (refl, refl),
+          ),
+        ),
+      ),
+    ),
   )
   row-more (suc n) bytes one events first (head, (more, (f, (others, (b, e, s, row))))) h = (
     head,
-    (more ++ one, (f, (others ++ first, (
-      ap (λ t. t ++ one) b ∙ append_assoc head more one,
-      ap (λ t. t ++ first) e ∙ append_assoc f others first,
-      s,
-      row-more n more one others first row h,
-    )))),
+    (
+      more ++ one,
+      (
+        f,
+        (
+          others ++ first,
+          (
+            ap (λ t. t ++ one) b ∙ append_assoc head more one,
+            ap (λ t. t ++ first) e ∙ append_assoc f others first,
+            s,
+            row-more n more one others first row h,
+          ),
+        ),
+      ),
+    ),
   )
 
 -- ---- Depths
@@ -96,22 +114,25 @@ module _ (longest depth : ℕ) where
       let some = due-some n lacks due in
       let level : depth - length lacks ≡ suc (depth - length (n ∷ lacks)) = omega (arith, deep some) in
       let inside = inside-at longest (depth - length lacks) (depth - length (n ∷ lacks)) one first level h in
-      let count : b.has + n ≡ suc b.has + (n - 1) = omega (arith, some) in
-      (outer, (λ more. deep some), record {
-        outer = b.outer;
-        given = b.given;
-        ahead = b.ahead;
-        has = suc b.has;
-        text = b.text;
-        number = subst (λ k. IsLength greatest_count b.text (Some k)) count b.number;
-        more = b.more ++ one;
-        inside = b.inside ++ first;
-        row = row-more (SpellsInside longest (depth - length lacks)) b.has b.more one b.inside first b.row inside;
-        whole = ap (λ t. t ++ one) b.whole ∙ join-last b.outer 42 (line b.text) b.more one;
-        told = ap (λ t. t ++ first) b.told
-            ∙ append_assoc b.given (event.StartArray (b.has + n) ∷ b.inside) first
-            ∙ ap (λ k. b.given ++ event.StartArray k ∷ (b.inside ++ first)) count;
-      })
+      let count : b.has + n ≡ suc b.has + (n - 1) = omega (arith, some) in (
+        outer,
+        (λ more. deep some),
+        record {
+          outer = b.outer;
+          given = b.given;
+          ahead = b.ahead;
+          has = suc b.has;
+          text = b.text;
+          number = subst (λ k. IsLength greatest_count b.text (Some k)) count b.number;
+          more = b.more ++ one;
+          inside = b.inside ++ first;
+          row = row-more (SpellsInside longest (depth - length lacks)) b.has b.more one b.inside first b.row inside;
+          whole = ap (λ t. t ++ one) b.whole ∙ join-last b.outer 42 (line b.text) b.more one;
+          told = ap (λ t. t ++ first) b.told
+              ∙ append_assoc b.given (event.StartArray (b.has + n) ∷ b.inside) first
+              ∙ ap (λ k. b.given ++ event.StartArray k ∷ (b.inside ++ first)) count;
+        },
+      )
 
   -- an array begins, where a reply is due
   pub begun-array : (lacks : List ℕ) (bytes text : List ℕ) (events : List ReplyEvent) (n : ℕ)
@@ -119,20 +140,23 @@ module _ (longest depth : ℕ) where
       → IsLength greatest_count text (Some n) → (0 < n → length lacks < depth)
       → AreBegun longest depth (n ∷ lacks) (bytes ++ 42 ∷ line text) (events ++ event.StartArray n ∷ [])
   begun-array lacks bytes text events n due h is deep =
-      let count : n ≡ 0 + n = omega arith in
-      (due, deep, record {
-        outer = bytes;
-        given = events;
-        ahead = h;
-        has = 0;
-        text = text;
-        number = subst (λ k. IsLength greatest_count text (Some k)) count is;
-        more = [];
-        inside = [];
-        row = (refl, refl);
-        whole = ap (λ t. bytes ++ 42 ∷ t) (sym (append-nil (line text)));
-        told = ap (λ k. events ++ event.StartArray k ∷ []) count;
-      })
+      let count : n ≡ 0 + n = omega arith in (
+        due,
+        deep,
+        record {
+          outer = bytes;
+          given = events;
+          ahead = h;
+          has = 0;
+          text = text;
+          number = subst (λ k. IsLength greatest_count text (Some k)) count is;
+          more = [];
+          inside = [];
+          row = (refl, refl);
+          whole = ap (λ t. bytes ++ 42 ∷ t) (sym (append-nil (line text)));
+          told = ap (λ k. events ++ event.StartArray k ∷ []) count;
+        },
+      )
 
   -- an array ends that lacks no reply
   pub begun-end : (lacks : List ℕ) (bytes : List ℕ) (events : List ReplyEvent)
@@ -143,20 +167,20 @@ module _ (longest depth : ℕ) where
       let one = 42 ∷ (line b.text ++ b.more) in
       let first = event.StartArray b.has ∷ (b.inside ++ event.EndArray ∷ []) in
       let array : SpellsEvents longest (depth - length lacks) one first =
-          either-at longest (depth - length lacks) one first (inr (record {
-            count = b.has;
-            text = b.text;
-            more = b.more;
-            inside = b.inside;
-            number = subst (λ k. IsLength greatest_count b.text (Some k)) count b.number;
-            row = b.row;
-            whole = refl;
-            told = refl;
-          })) in
+      either-at longest (depth - length lacks) one first (inr (record {
+        count = b.has;
+        text = b.text;
+        more = b.more;
+        inside = b.inside;
+        number = subst (λ k. IsLength greatest_count b.text (Some k)) count b.number;
+        row = b.row;
+        whole = refl;
+        told = refl;
+      })) in
       let told : b.given ++ first ≡ events ++ event.EndArray ∷ [] =
-          sym (ap (λ t. t ++ event.EndArray ∷ []) b.told
-          ∙ append_assoc b.given (event.StartArray (b.has + 0) ∷ b.inside) (event.EndArray ∷ [])
-          ∙ ap (λ k. b.given ++ event.StartArray k ∷ (b.inside ++ event.EndArray ∷ [])) count) in
+      sym (ap (λ t. t ++ event.EndArray ∷ []) b.told
+      ∙ append_assoc b.given (event.StartArray (b.has + 0) ∷ b.inside) (event.EndArray ∷ [])
+      ∙ ap (λ k. b.given ++ event.StartArray k ∷ (b.inside ++ event.EndArray ∷ [])) count) in
       subst (λ t. AreBegun longest depth (after_reply lacks) bytes t) told
       (subst (λ t. AreBegun longest depth (after_reply lacks) t (b.given ++ first)) (sym b.whole)
       (begun-reply lacks b.outer one b.given first due b.ahead array))
@@ -189,8 +213,8 @@ module _ (longest depth : ℕ) where
   begun-head (Array v) lacks bytes one events due h (text, (more, (is, all, e))) =
       let none = none-inside v.items more all in
       let nil : IsLength greatest_count text (Some 0) =
-          subst (λ (l : List Reply). IsLength greatest_count text (Some (length l))) none.0 is in
+      subst (λ (l : List Reply). IsLength greatest_count text (Some (length l))) none.0 is in
       let here : one ≡ 42 ∷ line text =
-          e ∙ ap (λ t. 42 ∷ (line text ++ t)) none.1 ∙ ap (λ t. 42 ∷ t) (append-nil (line text)) in
+      e ∙ ap (λ t. 42 ∷ (line text ++ t)) none.1 ∙ ap (λ t. 42 ∷ t) (append-nil (line text)) in
       subst (λ t. AreBegun longest depth (0 ∷ lacks) (bytes ++ t) (events ++ event.StartArray 0 ∷ [])) (sym here)
       (begun-array lacks bytes text events 0 due h nil (λ some. absurd (omega (arith, some))))

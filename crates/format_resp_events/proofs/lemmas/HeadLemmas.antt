@@ -154,7 +154,7 @@ module _ (f : ReaderState ReplyTo) (there : ℕ) (told : Cause) (h : FailsAt Rea
       let d = damage-here f there h more partial may in
       let l = leaves f there h in
       let rest : h.0 ++ more ≡ drop (there - f.place) (f.ahead ++ more) =
-          ap (λ t. t ++ more) l.left ∙ sym (drop-append-le (there - f.place) f.ahead more l.within) in
+      ap (λ t. t ++ more) l.left ∙ sym (drop-append-le (there - f.place) f.ahead more l.within) in
       let one = subst (λ xs. IsDamaged f.parser.longest f.parser.depth d.0 (units (f.ahead ++ more)) (units xs)) rest d.1.1 in
       subst (λ c. IsSettled partial c × IsDamaged f.parser.longest f.parser.depth c (units (f.ahead ++ more)) (units (drop (there - f.place) (f.ahead ++ more))))
       (told-then f.ended refl more partial may) (d.1.0, one)
@@ -174,7 +174,7 @@ pub cause-here : (told : Cause) (k width : ℕ) (bytes ahead : List ℕ) → byt
 cause-here told k width bytes ahead same e h =
     let front : take width bytes ≡ take k ahead = ap (λ n. take n bytes) e ∙ ap (take k) same in
     let back : take (length bytes - width) (drop width bytes) ≡ drop k ahead =
-        take_rest bytes width ∙ ap (λ n. drop n bytes) e ∙ ap (drop k) same in
+    take_rest bytes width ∙ ap (λ n. drop n bytes) e ∙ ap (drop k) same in
     subst (λ r. IsCauseOf told (take k ahead) r) back
     (subst (λ b. IsCauseOf told b (take (length bytes - width) (drop width bytes))) front h)
 
@@ -194,7 +194,7 @@ body-deeper longest depth kind cause whole rest other (inr (inl h)) = inr (inl h
 body-deeper longest depth kind cause whole rest other (inr (inr (inl h))) = inr (inr (inl h))
 body-deeper longest depth kind cause whole rest other (inr (inr (inr (k, inl (inl h))))) =
     inr (inr (inr (k, inl (inl h))))
-body-deeper longest depth kind cause whole rest other (inr (inr (inr (k, inl (inr (same, (text, (end, (a, fits, lacks, inl (wrong, none))))))))))  =
+body-deeper longest depth kind cause whole rest other (inr (inr (inr (k, inl (inr (same, (text, (end, (a, fits, lacks, inl (wrong, none)))))))))) =
     inr (inr (inr (k, inl (inr (same, (text, (end, (a, fits, none, inl (wrong, none)))))))))
 body-deeper longest depth kind cause whole rest other (inr (inr (inr (k, inl (inr (same, (text, (end, (a, fits, lacks, inr (deep, n)))))))))) =
     absurd (other deep)
@@ -212,9 +212,13 @@ deeper longest (suc depth) cause whole rest other (inr (kind, (after, (is, stand
 -- so does what a reader has ahead, whatever follows
 pub breaks-deeper : (f : ReaderState ReplyTo) (place depth : ℕ) (cause : Cause)
     → ¬ (cause ≡ TooDeep) → BreaksWithin 0 f place cause → BreaksWithin depth f place cause
-breaks-deeper f place depth cause other (before, within, h) = (before, within, λ more partial may.
-    let k = h more partial may in
-    (k.0, deeper f.parser.longest depth cause (units (f.ahead ++ more)) (units (drop (place - f.place) (f.ahead ++ more))) other k.1))
+breaks-deeper f place depth cause other (before, within, h) = (
+  before,
+  within,
+  λ more partial may.
+      let k = h more partial may in
+      (k.0, deeper f.parser.longest depth cause (units (f.ahead ++ more)) (units (drop (place - f.place) (f.ahead ++ more))) other k.1),
+)
 
 -- ---- Arrays with replies
 
@@ -235,9 +239,9 @@ deep-line longest bytes whole rest kind stands (inr (inr (inl (k, inl (inr (same
     absurd (cc wrong)
 deep-line longest bytes whole rest kind stands (inr (inr (inl (k, inl (inr (same, (text, (end, (a, fits, lacks, inr (long, n)))))))))) =
     absurd (cc long)
-deep-line longest bytes whole rest kind stands (inr (inr (inl (k, inr (text, (count, (after, (is, a, inl (ends, few, none)))))))))  =
+deep-line longest bytes whole rest kind stands (inr (inr (inl (k, inr (text, (count, (after, (is, a, inl (ends, few, none))))))))) =
     absurd (cc ends)
-deep-line longest bytes whole rest kind stands (inr (inr (inl (k, inr (text, (count, (after, (is, a, inr (held, (end, (b, n, (cause, lacks))))))))))))  =
+deep-line longest bytes whole rest kind stands (inr (inr (inl (k, inr (text, (count, (after, (is, a, inr (held, (end, (b, n, (cause, lacks)))))))))))) =
     absurd (never-deep rest NoLineEnd (λ e. cc e) cause)
 deep-line longest bytes whole rest kind stands (inr (inr (inr (k, inl (inl (text, (end, (a, fits, over, (cause, lacks))))))))) =
     absurd (never-deep rest NoLineEnd (λ e. cc e) cause)
@@ -273,7 +277,7 @@ pub passes-line : (f : ReaderState ReplyTo) (text after : List ℕ) (n : ℕ)
 passes-line f text after n whole e =
     let wide = length-line-of text in
     let all : length f.ahead ≡ length (line text) + length after + 1 =
-        omega (arith, ap length whole, length-append (line text) after) in
+    omega (arith, ap length whole, length-append (line text) after) in
     let count : min n (length f.ahead) ≡ length (42 ∷ line text) = omega (arith, e, wide, all) in
     record {
       whole = whole ∙ ap (λ t. 42 ∷ (line text ++ t))
@@ -290,27 +294,32 @@ pub passes-reply : (old new : ReaderState ReplyTo) (y : Reply) → TakesValue Re
     → (bytes : List ℕ) × (Passes old bytes new × Spells old.parser.longest old.parser.depth y bytes)
 passes-reply old new y (n, (some, within, means, taken)) =
     let k = yields-nested true IsByteSlice (λ slice. slice.now) have-bytes old.parser.longest old.parser.depth (not old.ended)
-        (bytes_at old.place old.ahead) (bytes_at new.place new.ahead) y (HasPositiveWidths-units old.ahead) means in
+    (bytes_at old.place old.ahead) (bytes_at new.place new.ahead) y (HasPositiveWidths-units old.ahead) means in
     let there = units-ahead old.ahead k.0 (units new.ahead) k.1.0 in
     let left : new.ahead ≡ there.0 =
-        sym (bytes-units new.ahead) ∙ ap bytes_of there.1.1 ∙ bytes-units there.0 in
+    sym (bytes-units new.ahead) ∙ ap bytes_of there.1.1 ∙ bytes-units there.0 in
     let whole : old.ahead ≡ k.0 ++ new.ahead = there.1.0 ∙ ap (λ t. k.0 ++ t) (sym left) in
     let count : n ≡ length k.0 =
-        omega (arith, within, ap length whole, length-append k.0 new.ahead, ap (λ (f : ReaderState ReplyTo). length f.ahead) taken, length-drop n old.ahead) in
-    (k.0, (record {
-      whole = whole;
-      place = ap (λ (f : ReaderState ReplyTo). f.place) taken ∙ ap (λ m. old.place + m) count;
-      parser = ap (λ (f : ReaderState ReplyTo). f.parser) taken;
-      ended = ap (λ (f : ReaderState ReplyTo). f.ended) taken;
-    }, k.1.1))
+    omega (arith, within, ap length whole, length-append k.0 new.ahead, ap (λ (f : ReaderState ReplyTo). length f.ahead) taken, length-drop n old.ahead) in (
+      k.0,
+      (
+        record {
+          whole = whole;
+          place = ap (λ (f : ReaderState ReplyTo). f.place) taken ∙ ap (λ m. old.place + m) count;
+          parser = ap (λ (f : ReaderState ReplyTo). f.parser) taken;
+          ended = ap (λ (f : ReaderState ReplyTo). f.ended) taken;
+        },
+        k.1.1,
+      ),
+    )
 
 -- no reply takes nothing
 pub never-idle : (f : ReaderState ReplyTo) (place : ℕ) → IdlesAt Reading f place → ⊥
 never-idle f place (e, (y, gives)) =
     let here = bytes_at place (f.ahead ++ []) in
     let k = yields-nested true IsByteSlice (λ slice. slice.now) have-bytes f.parser.longest f.parser.depth (not f.ended)
-        here here y (HasPositiveWidths-units (f.ahead ++ [])) (gives [] (not f.ended) (may-none f.ended)) in
+    here here y (HasPositiveWidths-units (f.ahead ++ [])) (gives [] (not f.ended) (may-none f.ended)) in
     let first = spells-begins true IsByteSlice (λ slice. slice.now) have-bytes f.parser.longest f.parser.depth y k.0 k.1.1 in
     let narrower = ahead-narrower first.0 first.1.0 here.tokens here.tokens (HasPositiveWidths-units (f.ahead ++ []))
-        (subst (λ t. IsAhead here.tokens t here.tokens) first.1.1 k.1.0) in
+    (subst (λ t. IsAhead here.tokens t here.tokens) first.1.1 k.1.0) in
     omega (arith, narrower)

@@ -21,7 +21,7 @@ pub given-begins : (r : EventState) (input more : List ℕ) (events all : List R
     → IsFrontOf SameEvent events all
 given-begins r input more events all h are =
     let joined : input ++ more ≡ h.bytes ++ (r.replies.ahead ++ more) =
-        ap (λ t. t ++ more) h.whole ∙ append_assoc h.bytes r.replies.ahead more in
+    ap (λ t. t ++ more) h.whole ∙ append_assoc h.bytes r.replies.ahead more in
     begun-first (longest_of r) r.depth r.open_arrays h.bytes (r.replies.ahead ++ more) events all h.begun
     (subst (λ t. AreReplies (longest_of r) r.depth t all) joined are)
 

@@ -57,6 +57,8 @@ reply-has longest (suc depth) y t h =
 -- replies within limits have their events
 pub replies-have : (longest depth : ℕ) (ys : List Reply) (t : List ℕ)
     → SpellAll (Spells longest depth) ys t → AreReplies longest depth t (flat_map events_of ys)
-replies-have longest depth ys t h =
-    (length ys, subst (SpellsRow (SpellsEvents longest depth) (length ys) t) (flat_map-map (λ events. events) events_of ys)
-    (row-has (Spells longest depth) (SpellsEvents longest depth) (reply-has longest depth) ys t h))
+replies-have longest depth ys t h = (
+  length ys,
+  subst (SpellsRow (SpellsEvents longest depth) (length ys) t) (flat_map-map (λ events. events) events_of ys)
+      (row-has (Spells longest depth) (SpellsEvents longest depth) (reply-has longest depth) ys t h),
+)

@@ -111,7 +111,7 @@ bulk-once : (v w : List ℕ) (text s t q r : List ℕ) → IsCount (length v) te
 bulk-once v w text s t q r (small, is) (low, too) a b e =
     let n = decimal_injective (length v) (length w) small low (sym is ∙ too) in
     let both : v ++ (line_end ++ q) ≡ w ++ (line_end ++ r) =
-        sym (append_assoc v line_end q) ∙ ap (λ l. l ++ q) (sym a) ∙ e ∙ ap (λ l. l ++ r) b ∙ append_assoc w line_end r in
+    sym (append_assoc v line_end q) ∙ ap (λ l. l ++ q) (sym a) ∙ e ∙ ap (λ l. l ++ r) b ∙ append_assoc w line_end r in
     let k = same-front v w (line_end ++ q) (line_end ++ r) n both in
     (k.0, tails 10 10 q r (tails 13 13 (10 ∷ q) (10 ∷ r) k.1))
 
@@ -188,11 +188,11 @@ pub first-once : (e f : ReplyEvent) (s t q r : List ℕ) → IsFirst e s → IsF
     → SameEvent e f × (q ≡ r)
 first-once e f s t q r a b same =
     let both : kind_of e ∷ (line a.text ++ (a.more ++ q)) ≡ kind_of f ∷ (line b.text ++ (b.more ++ r)) =
-        ap (λ l. kind_of e ∷ l) (sym (append_assoc (line a.text) a.more q)) ∙ sym (ap (λ l. l ++ q) a.whole)
-        ∙ same ∙ ap (λ l. l ++ r) b.whole ∙ ap (λ l. kind_of f ∷ l) (append_assoc (line b.text) b.more r) in
+    ap (λ l. kind_of e ∷ l) (sym (append_assoc (line a.text) a.more q)) ∙ sym (ap (λ l. l ++ q) a.whole)
+    ∙ same ∙ ap (λ l. l ++ r) b.whole ∙ ap (λ l. kind_of f ∷ l) (append_assoc (line b.text) b.more r) in
     let k = heads (kind_of e) (kind_of f) (line a.text ++ (a.more ++ q)) (line b.text ++ (b.more ++ r)) both in
     let lines = line-once a.text b.text (a.more ++ q) (b.more ++ r) a.fits b.fits
-        (tails (kind_of e) (kind_of f) (line a.text ++ (a.more ++ q)) (line b.text ++ (b.more ++ r)) both) in
+    (tails (kind_of e) (kind_of f) (line a.text ++ (a.more ++ q)) (line b.text ++ (b.more ++ r)) both) in
     same-says e f a.text a.more b.more q r k a.says (subst (λ l. Says f l b.more) (sym lines.0) b.says) lines.1
 
 -- a reply that is no array does not begin as one
@@ -232,7 +232,7 @@ module _ (spells : List ℕ → List ReplyEvent → Type 0) (one : IsOnce spells
   row-once (suc n) zero k s t q r es fs a b same = absurd (omega (arith, k))
   row-once (suc n) (suc m) k s t q r es fs (s1, (s2, (e1, (e2, (sa, ea, h1, row1))))) (t1, (t2, (f1, (f2, (ta, fa, h2, row2))))) same =
       let both : s1 ++ (s2 ++ q) ≡ t1 ++ (t2 ++ r) =
-          sym (append_assoc s1 s2 q) ∙ ap (λ l. l ++ q) (sym sa) ∙ same ∙ ap (λ l. l ++ r) ta ∙ append_assoc t1 t2 r in
+      sym (append_assoc s1 s2 q) ∙ ap (λ l. l ++ q) (sym sa) ∙ same ∙ ap (λ l. l ++ r) ta ∙ append_assoc t1 t2 r in
       let first = one s1 t1 (s2 ++ q) (t2 ++ r) e1 f1 h1 h2 both in
       let more = row-once n m (omega (arith, k)) s2 t2 q r e2 f2 row1 row2 first.1 in
       (subst (AreAlike SameEvent es) (sym fa) (subst (λ l. AreAlike SameEvent l (f1 ++ f2)) (sym ea) (alike-join e1 f1 e2 f2 first.0 more.0)), more.1)
@@ -247,8 +247,8 @@ module _ (spells : List ℕ → List ReplyEvent → Type 0) (one : IsOnce spells
       → SpellsArray spells t fs → s ++ q ≡ t ++ r → AreAlike SameEvent es fs × (q ≡ r)
   array-once s t q r es fs a b same =
       let first = first-once (event.StartArray a.count) (event.StartArray b.count) (42 ∷ line a.text) (42 ∷ line b.text) (a.more ++ q) (b.more ++ r)
-          (array-first a.text a.count a.number) (array-first b.text b.count b.number)
-          (sym (array-rest s q es a) ∙ same ∙ array-rest t r fs b) in
+      (array-first a.text a.count a.number) (array-first b.text b.count b.number)
+      (sym (array-rest s q es a) ∙ same ∙ array-rest t r fs b) in
       let rows = row-once a.count b.count first.0 a.more b.more q r a.inside b.inside a.row b.row first.1 in
       let inner = alike-join a.inside b.inside (event.EndArray ∷ []) (event.EndArray ∷ []) rows.0 (tt, tt) in
       (subst (AreAlike SameEvent es) (sym b.told) (subst (λ l. AreAlike SameEvent l (event.StartArray b.count ∷ (b.inside ++ event.EndArray ∷ []))) (sym a.told) (first.0, inner)), rows.1)

@@ -164,8 +164,11 @@ none-left : (longest depth k : ℕ) (bytes : List ℕ) → bytes ≡ []
     → IsDamaged longest depth EndsInside (units bytes) (units (drop k bytes))
 none-left longest depth k bytes e =
     let none : drop k bytes ≡ [] = ap (drop k) e ∙ drop-none k in
-    inl (ap units (e ∙ sym none), subst (λ l. HasNoKind (units l)) (sym e) tt,
-    ap (λ l. cause_at (units l) NoKind) (sym none))
+    inl (
+      ap units (e ∙ sym none),
+      subst (λ l. HasNoKind (units l)) (sym e) tt,
+      ap (λ l. cause_at (units l) NoKind) (sym none),
+    )
 
 -- where the input has ended and nothing is left, a reply that is due breaks off
 pub breaks-end : (f : ReaderState ReplyTo) (depth place : ℕ) → IsThrough f → place ≡ fed_of f
@@ -174,10 +177,10 @@ breaks-end f depth place (ended, none) at = (
   omega (arith, at),
   omega (arith, at),
   λ more partial may.
-    let both : MayFollow true more partial = subst (λ b. MayFollow b more partial) ended may in (
-      λ yes. absurd (true≢false (sym yes ∙ both.1)),
-      none-left f.parser.longest depth (place - f.place) (f.ahead ++ more) (ap (λ l. l ++ more) none ∙ both.0),
-    ),
+      let both : MayFollow true more partial = subst (λ b. MayFollow b more partial) ended may in (
+        λ yes. absurd (true≢false (sym yes ∙ both.1)),
+        none-left f.parser.longest depth (place - f.place) (f.ahead ++ more) (ap (λ l. l ++ more) none ∙ both.0),
+      ),
 )
 
 -- ---- Answers

@@ -69,9 +69,9 @@ begun-written longest depth [] bytes events (n, row) =
     row-written (SpellsEvents longest depth) (reply-written longest depth) n bytes events row
 begun-written longest depth (n ∷ lacks) bytes events (due, deep, b) =
     let head : events_written (event.StartArray (b.has + n) ∷ b.inside) ≡ 42 ∷ (line b.text ++ b.more) =
-        ap (λ t. 42 ∷ (line t ++ events_written b.inside)) (sym b.number.2)
-        ∙ ap (λ t. 42 ∷ (line b.text ++ t))
-        (sym (row-written (SpellsInside longest (depth - length lacks)) (inside-written longest (depth - length lacks)) b.has b.more b.inside b.row)) in
+    ap (λ t. 42 ∷ (line t ++ events_written b.inside)) (sym b.number.2)
+    ∙ ap (λ t. 42 ∷ (line b.text ++ t))
+    (sym (row-written (SpellsInside longest (depth - length lacks)) (inside-written longest (depth - length lacks)) b.has b.more b.inside b.row)) in
     b.whole ∙ ap (λ t. t ++ 42 ∷ (line b.text ++ b.more)) (begun-written longest depth lacks b.outer b.given b.ahead)
     ∙ ap (λ t. events_written b.given ++ t) (sym head)
     ∙ sym (written-both b.given (event.StartArray (b.has + n) ∷ b.inside)) ∙ sym (ap events_written b.told)
