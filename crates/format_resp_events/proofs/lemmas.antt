@@ -1,0 +1,10 @@
+pub mod OpenLemmas
+pub mod EventLemmas
+pub mod WrittenLemmas
+pub mod ReplyEventLemmas
+pub mod SameLemmas
+pub mod BeginLemmas
+pub mod HeadLemmas
+pub mod LineLemmas
+pub mod TurnLemmas
+pub mod LawLemmas
