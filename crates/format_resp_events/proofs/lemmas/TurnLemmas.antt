@@ -1,0 +1,149 @@
+-- What a reader of events has given after one more answer.
+use Rattle.std.proofs.Common.{◌≡◌, ℕ, zero, suc, ◌+◌, ◌-◌, ◌<◌, ◌≤◌, Bool, true, false, List, [], ◌∷◌, ◌++◌, length, drop, Some, true≢false, refl, ap, sym, ◌∙◌, subst, inl, inr, arith, append_assoc}
+use Rattle.std.specs.Prelude.{◌⊎◌, Result, Ok, Err}
+use Rattle.std.proofs.lemmas.List.{append-nil, length-append}
+use Rattle.winnow_reader.specs.State.{ReaderState, fed_of}
+use Rattle.winnow_reader.specs.Reading.{MayFollow}
+use Rattle.winnow_reader.specs.SameValues.{IsThrough}
+use Rattle.winnow_stream.specs.Source.{units}
+use Rattle.format_resp.specs.Language.{line, IsLength, greatest_count, SpellsLayer, SpellsNone, Spells}
+use Rattle.format_resp.specs.Answers.{IsSettled}
+use Rattle.format_resp.specs.Damage.{HasNoKind, cause_at}
+use Rattle.format_resp.specs.Causes.{IsDamaged}
+use Rattle.format_resp.specs.declared.causes.Cause.{Cause}
+use Rattle.format_resp.specs.declared.causes.Cause.TheVariants.{EndsInside, NoKind}
+use Rattle.format_resp.specs.declared.grammar.ReplyTo.{ReplyTo}
+use Rattle.format_resp.specs.declared.reply.Reply.{Reply}
+use Rattle.format_resp.specs.declared.reply.Reply.TheViews.{out-Reply}
+use Rattle.format_resp_events.specs.Events.{first_event}
+use Rattle.format_resp_events.specs.Heads.{Passes, BreaksWithin}
+use Rattle.format_resp_events.specs.OpenArrays.{is_due, IsDue, after_reply, after_array, after_head}
+use Rattle.format_resp_events.specs.Reading.{EventState, longest_of, AreBegun, HasGiven, GivesOn, KeepsLimits, Advances, BreaksAt}
+use Rattle.format_resp_events.specs.declared.event.ReplyEvent.{ReplyEvent}
+use Rattle.format_resp_events.specs.declared.event.ReplyEvent.TheVariants as event
+use Rattle.format_resp_events.proofs.lemmas.EventLemmas.{not-due, begun-end, begun-array, begun-head}
+
+-- a reader with this reader of replies, and arrays that lack so many
+abbrev pub reader_at : EventState → ReaderState ReplyTo → List ℕ → EventState
+reader_at old replies lacks =
+    record { replies = replies; open_arrays = lacks; depth = old.depth }
+
+-- nothing was taken and nothing was given
+pub gives-same : (old : EventState) (replies : ReaderState ReplyTo) (lacks : List ℕ)
+    → replies.ahead ≡ old.replies.ahead → replies.place ≡ old.replies.place
+    → replies.parser ≡ old.replies.parser → lacks ≡ old.open_arrays
+    → GivesOn old [] (reader_at old replies lacks)
+gives-same old replies lacks ahead place parser same input before h = record {
+  bytes = h.bytes;
+  whole = h.whole ∙ ap (λ t. h.bytes ++ t) (sym ahead);
+  place = place ∙ h.place;
+  begun = subst (λ events. AreBegun replies.parser.longest old.depth lacks h.bytes events) (sym (append-nil before))
+      (subst (λ l. AreBegun replies.parser.longest old.depth l h.bytes before) (sym same)
+      (subst (λ (r : ReplyTo). AreBegun r.longest old.depth old.open_arrays h.bytes before) (sym parser) h.begun));
+}
+
+-- an array ended
+pub gives-end : (old : EventState) (lacks : List ℕ) → is_due old.open_arrays ≡ false
+    → lacks ≡ after_array old.open_arrays
+    → GivesOn old (event.EndArray ∷ []) (reader_at old old.replies lacks)
+gives-end old lacks none same input before h =
+    let k = not-due old.open_arrays none in
+    let begun = subst (λ l. AreBegun (longest_of old) old.depth l h.bytes before) k.1 h.begun in
+    record {
+      bytes = h.bytes;
+      whole = h.whole;
+      place = h.place;
+      begun = subst (λ l. AreBegun (longest_of old) old.depth l h.bytes (before ++ event.EndArray ∷ []))
+          (sym (same ∙ ap after_array k.1)) (begun-end (longest_of old) old.depth k.0 h.bytes before begun);
+    }
+
+-- bytes were passed, and are what began
+gives-passed : (old : EventState) (replies : ReaderState ReplyTo) (lacks one : List ℕ)
+    (e : ReplyEvent) → Passes old.replies one replies
+    → ((bytes : List ℕ) (events : List ReplyEvent) → AreBegun (longest_of old) old.depth old.open_arrays bytes events
+    → AreBegun (longest_of old) old.depth lacks (bytes ++ one) (events ++ e ∷ []))
+    → GivesOn old (e ∷ []) (reader_at old replies lacks)
+gives-passed old replies lacks one e p on input before h = record {
+  bytes = h.bytes ++ one;
+  whole = h.whole ∙ ap (λ t. h.bytes ++ t) p.whole ∙ sym (append_assoc h.bytes one replies.ahead);
+  place = omega (arith, p.place, h.place, length-append h.bytes one);
+  begun = subst (λ (r : ReplyTo). AreBegun r.longest old.depth lacks (h.bytes ++ one) (before ++ e ∷ [])) (sym p.parser)
+      (on h.bytes before h.begun);
+}
+
+-- a whole reply was taken
+pub gives-whole : (old : EventState) (replies : ReaderState ReplyTo) (lacks one : List ℕ) (y : Reply)
+    → IsDue old.open_arrays → Passes old.replies one replies
+    → Spells old.replies.parser.longest 0 y one → lacks ≡ after_head (out-Reply y) old.open_arrays
+    → GivesOn old (first_event (out-Reply y) ∷ []) (reader_at old replies lacks)
+gives-whole old replies lacks one y due p spells same =
+    gives-passed old replies lacks one (first_event (out-Reply y)) p
+    (λ bytes events h. subst (λ l. AreBegun (longest_of old) old.depth l (bytes ++ one) (events ++ first_event (out-Reply y) ∷ []))
+    (sym same) (begun-head (longest_of old) old.depth (out-Reply y) old.open_arrays bytes one events due h spells))
+
+-- the line of an array was taken
+pub gives-array : (old : EventState) (replies : ReaderState ReplyTo) (lacks text : List ℕ) (n : ℕ)
+    → IsDue old.open_arrays → Passes old.replies (42 ∷ line text) replies
+    → IsLength greatest_count text (Some n) → length old.open_arrays < old.depth
+    → lacks ≡ n ∷ old.open_arrays
+    → GivesOn old (event.StartArray n ∷ []) (reader_at old replies lacks)
+gives-array old replies lacks text n due p is deep same =
+    gives-passed old replies lacks (42 ∷ line text) (event.StartArray n) p
+    (λ bytes events h. subst (λ l. AreBegun (longest_of old) old.depth l (bytes ++ 42 ∷ line text) (events ++ event.StartArray n ∷ []))
+    (sym same) (begun-array (longest_of old) old.depth old.open_arrays bytes text events n due h is (λ some. deep)))
+
+-- ---- Limits
+
+-- bytes were passed within the same limits
+pub keeps-passed : (old : EventState) (replies : ReaderState ReplyTo) (lacks one : List ℕ)
+    → Passes old.replies one replies → KeepsLimits old (reader_at old replies lacks)
+keeps-passed old replies lacks one p = (ap (λ (r : ReplyTo). r.longest) p.parser, refl, p.ended)
+
+-- ---- Going on
+
+-- a reader that passed bytes goes on
+pub advances-passed : (old : EventState) (replies : ReaderState ReplyTo) (lacks one : List ℕ)
+    → Passes old.replies one replies → 0 < length one → Advances old (reader_at old replies lacks)
+advances-passed old replies lacks one p some =
+    inl (omega (arith, some, ap length p.whole, length-append one replies.ahead))
+
+-- after a reply as many arrays are open
+reply-length : (lacks : List ℕ) → length (after_reply lacks) ≡ length lacks
+reply-length [] = refl
+reply-length (n ∷ lacks) = refl
+
+-- a reader that closed an array goes on
+pub advances-end : (old : EventState) (lacks : List ℕ) → is_due old.open_arrays ≡ false
+    → lacks ≡ after_array old.open_arrays → Advances old (reader_at old old.replies lacks)
+advances-end old lacks none same =
+    let k = not-due old.open_arrays none in
+    let now = ap length (same ∙ ap after_array k.1) ∙ reply-length k.0 in
+    inr (refl, omega (arith, now, ap length k.1))
+
+-- ---- The end
+
+-- nothing is left of nothing
+drop-none : (k : ℕ) → drop k [] ≡ []
+drop-none zero = refl
+drop-none (suc k) = refl
+
+-- where nothing is left, no reply begins
+none-left : (longest depth k : ℕ) (bytes : List ℕ) → bytes ≡ []
+    → IsDamaged longest depth EndsInside (units bytes) (units (drop k bytes))
+none-left longest depth k bytes e =
+    let none : drop k bytes ≡ [] = ap (drop k) e ∙ drop-none k in
+    inl (ap units (e ∙ sym none), subst (λ l. HasNoKind (units l)) (sym e) tt,
+    ap (λ l. cause_at (units l) NoKind) (sym none))
+
+-- where the input has ended and nothing is left, a reply that is due breaks off
+pub breaks-end : (f : ReaderState ReplyTo) (depth place : ℕ) → IsThrough f → place ≡ fed_of f
+    → BreaksWithin depth f place EndsInside
+breaks-end f depth place (ended, none) at = (
+  omega (arith, at),
+  omega (arith, at),
+  λ more partial may.
+    let both : MayFollow true more partial = subst (λ b. MayFollow b more partial) ended may in (
+      λ yes. absurd (true≢false (sym yes ∙ both.1)),
+      none-left f.parser.longest depth (place - f.place) (f.ahead ++ more) (ap (λ l. l ++ more) none ∙ both.0),
+    ),
+)

@@ -1,0 +1,4 @@
+pub mod OpenArrays
+pub mod Heads
+pub mod Events
+pub mod Reading
