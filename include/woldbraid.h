@@ -54,7 +54,7 @@ typedef uint32_t wb_status;
 #define WB_DAMAGED UINT32_C(7)
 /* A token stands at a place where it may not. */
 #define WB_UNEXPECTED UINT32_C(8)
-/* A value stands at a place within more arrays and objects than the limit `depth`. */
+/* A value or a reply stands at a place within more arrays and objects than the limit `depth`. */
 #define WB_TOO_DEEP UINT32_C(9)
 /* The input ends before the text does. */
 #define WB_ENDS_EARLY UINT32_C(10)
@@ -233,6 +233,99 @@ size_t wb_csv_place(wb_csv_reader *reader);
 
 /* Frees a reader, or does nothing with NULL. */
 void wb_csv_free(wb_csv_reader *reader);
+
+/* ---- RESP (version 2): replies of a Redis server, one after the other, as events. No array is kept whole. */
+
+/* A reader of the events of replies. */
+typedef struct wb_resp_reader wb_resp_reader;
+
+/* What a reader may keep. */
+typedef struct wb_resp_limits {
+    /* Within how many arrays a reply may stand. A number is kept for each array that is open. */
+    size_t depth;
+    /* How many bytes a simple string, an error and a bulk string may have. */
+    size_t longest;
+    /* How many bytes may wait to be read when a piece is pushed. So at most as many are kept, and a piece. */
+    size_t kept;
+} wb_resp_limits;
+
+/* The limits where none are passed. */
+#define WB_RESP_DEPTH ((size_t)32)
+#define WB_RESP_LONGEST ((size_t)1 << 29)
+#define WB_RESP_KEPT (((size_t)1 << 29) + ((size_t)1 << 24))
+
+/* What kind of event it is. */
+#define WB_RESP_NONE UINT32_C(0)
+/* An array begins, of `count` replies. */
+#define WB_RESP_START_ARRAY UINT32_C(1)
+#define WB_RESP_END_ARRAY UINT32_C(2)
+#define WB_RESP_SIMPLE UINT32_C(3)
+#define WB_RESP_ERROR UINT32_C(4)
+#define WB_RESP_INTEGER UINT32_C(5)
+#define WB_RESP_BULK UINT32_C(6)
+#define WB_RESP_NULL_BULK UINT32_C(7)
+#define WB_RESP_NULL_ARRAY UINT32_C(8)
+
+/* What is wrong where a reply breaks off. */
+#define WB_RESP_ENDS_INSIDE UINT32_C(1)
+#define WB_RESP_NO_KIND UINT32_C(2)
+#define WB_RESP_TOO_DEEP UINT32_C(3)
+#define WB_RESP_NO_INTEGER UINT32_C(4)
+#define WB_RESP_NO_LENGTH UINT32_C(5)
+#define WB_RESP_TOO_LONG UINT32_C(6)
+#define WB_RESP_NO_LINE_END UINT32_C(7)
+
+/* An event, or why there is none. */
+typedef struct wb_resp_event {
+    /* The kind of event: WB_RESP_NONE where there is none. */
+    uint32_t kind;
+    /* With WB_DAMAGED, WB_TOO_DEEP and WB_ENDS_EARLY what is wrong, else 0. */
+    uint32_t cause;
+    /* The bytes of a simple string, an error or a bulk string. No zero follows them. */
+    const uint8_t *text;
+    /* How many these are; 0 for other events. */
+    size_t length;
+    /* The integer, else 0. */
+    int64_t integer;
+    /* How many replies the array has that begins, else 0. */
+    size_t count;
+    /* The place of an error, as an offset in bytes from the start of the input, else 0. */
+    size_t place;
+} wb_resp_event;
+
+/* Returns a reader, or NULL when memory is refused. Without limits, those above hold. */
+wb_resp_reader *wb_resp_new(const wb_resp_limits *limits);
+
+/* Returns a reader of a whole text, to which the text was pushed and then the end; or NULL when memory is refused or the text is missing.
+ * The text is copied. */
+wb_resp_reader *wb_resp_of(const void *text, size_t length, const wb_resp_limits *limits);
+
+/* Appends a piece to what waits to be read. Its bytes are copied. A piece of no bytes may have the address NULL. */
+wb_status wb_resp_push(wb_resp_reader *reader, const void *piece, size_t length);
+
+/* Notes that no more follows. */
+wb_status wb_resp_end(wb_resp_reader *reader);
+
+/* Reads the next event. With WB_OK there is one. After an error that names a place nothing is read, and each further call finds the same. */
+wb_status wb_resp_next(wb_resp_reader *reader, wb_resp_event *event);
+
+/* Returns how many bytes were pushed; 0 without a reader. */
+size_t wb_resp_fed(wb_resp_reader *reader);
+
+/* Returns how many bytes of the input are kept: those that wait to be read, and those that were read since the last piece. */
+size_t wb_resp_held(wb_resp_reader *reader);
+
+/* Returns how many bytes of the input were read: the place after the last event. */
+size_t wb_resp_place(wb_resp_reader *reader);
+
+/* Returns how many arrays are open. */
+size_t wb_resp_level(wb_resp_reader *reader);
+
+/* Frees a reader, or does nothing with NULL. */
+void wb_resp_free(wb_resp_reader *reader);
+
+/* Returns a cause in a few words, in English. */
+const char *wb_resp_cause_text(uint32_t cause);
 
 #ifdef __cplusplus
 }

@@ -16,17 +16,23 @@ struct wb_csv_reader {
     unsigned char *at;
 };
 
+struct wb_resp_reader {
+    unsigned char *at;
+};
+
 extern uint32_t woldbraid_json_new(wb_json_reader *handle, size_t depth, size_t kept);
 extern uint32_t woldbraid_json_next(wb_json_reader *handle, wb_json_event *event);
-extern size_t woldbraid_json_level(wb_json_reader *handle);
 extern uint32_t woldbraid_csv_new(wb_csv_reader *handle, size_t kept);
 extern uint32_t woldbraid_csv_next(wb_csv_reader *handle, wb_csv_record *record);
+extern uint32_t woldbraid_resp_new(wb_resp_reader *handle, size_t depth, size_t longest, size_t kept);
+extern uint32_t woldbraid_resp_next(wb_resp_reader *handle, wb_resp_event *event);
 /* Of any reader. */
 extern uint32_t woldbraid_push(void *handle, const uint8_t *piece, size_t length);
 extern void woldbraid_end(void *handle);
 extern size_t woldbraid_fed(void *handle);
 extern size_t woldbraid_held(void *handle);
 extern size_t woldbraid_place(void *handle);
+extern size_t woldbraid_level(void *handle);
 extern void woldbraid_free(void *handle);
 
 static wb_status push(void *reader, const void *piece, size_t length)
@@ -110,7 +116,7 @@ size_t wb_json_place(wb_json_reader *reader)
 
 size_t wb_json_level(wb_json_reader *reader)
 {
-    return reader == NULL ? 0 : woldbraid_json_level(reader);
+    return reader == NULL ? 0 : woldbraid_level(reader);
 }
 
 void wb_json_free(wb_json_reader *reader)
@@ -190,6 +196,83 @@ void wb_csv_free(wb_csv_reader *reader)
     free(reader);
 }
 
+wb_resp_reader *wb_resp_new(const wb_resp_limits *limits)
+{
+    static const wb_resp_limits usual = {WB_RESP_DEPTH, WB_RESP_LONGEST, WB_RESP_KEPT};
+    if (limits == NULL)
+        limits = &usual;
+    wb_resp_reader *reader = malloc(sizeof *reader);
+    if (reader == NULL)
+        return NULL;
+    reader->at = NULL;
+    if (woldbraid_resp_new(reader, limits->depth, limits->longest, limits->kept) != WB_OK) {
+        free(reader);
+        return NULL;
+    }
+    return reader;
+}
+
+wb_resp_reader *wb_resp_of(const void *text, size_t length, const wb_resp_limits *limits)
+{
+    wb_resp_reader *reader = wb_resp_new(limits);
+    if (reader == NULL)
+        return NULL;
+    if (push(reader, text, length) != WB_OK) {
+        wb_resp_free(reader);
+        return NULL;
+    }
+    woldbraid_end(reader);
+    return reader;
+}
+
+wb_status wb_resp_push(wb_resp_reader *reader, const void *piece, size_t length)
+{
+    return push(reader, piece, length);
+}
+
+wb_status wb_resp_end(wb_resp_reader *reader)
+{
+    return end(reader);
+}
+
+wb_status wb_resp_next(wb_resp_reader *reader, wb_resp_event *event)
+{
+    static const wb_resp_event none;
+    if (reader == NULL || event == NULL)
+        return WB_MISUSED;
+    /* The proved library takes a struct whose fields all have a value. */
+    *event = none;
+    return woldbraid_resp_next(reader, event);
+}
+
+size_t wb_resp_fed(wb_resp_reader *reader)
+{
+    return reader == NULL ? 0 : woldbraid_fed(reader);
+}
+
+size_t wb_resp_held(wb_resp_reader *reader)
+{
+    return reader == NULL ? 0 : woldbraid_held(reader);
+}
+
+size_t wb_resp_place(wb_resp_reader *reader)
+{
+    return reader == NULL ? 0 : woldbraid_place(reader);
+}
+
+size_t wb_resp_level(wb_resp_reader *reader)
+{
+    return reader == NULL ? 0 : woldbraid_level(reader);
+}
+
+void wb_resp_free(wb_resp_reader *reader)
+{
+    if (reader == NULL)
+        return;
+    woldbraid_free(reader);
+    free(reader);
+}
+
 const char *wb_status_text(wb_status status)
 {
     switch (status) {
@@ -225,6 +308,20 @@ const char *wb_json_cause_text(uint32_t cause)
     case WB_JSON_LONE_SURROGATE: return "a surrogate without the other one of its pair";
     case WB_JSON_CONTROL_CHARACTER: return "a control character, which is an escape in a string";
     case WB_JSON_BAD_UTF8: return "bytes that are no UTF-8";
+    default: return "no cause";
+    }
+}
+
+const char *wb_resp_cause_text(uint32_t cause)
+{
+    switch (cause) {
+    case WB_RESP_ENDS_INSIDE: return "the input ends before the reply does";
+    case WB_RESP_NO_KIND: return "no reply begins with this byte";
+    case WB_RESP_TOO_DEEP: return "too many arrays inside one another";
+    case WB_RESP_NO_INTEGER: return "a text that is no integer";
+    case WB_RESP_NO_LENGTH: return "a text that is no length";
+    case WB_RESP_TOO_LONG: return "a length above the limit";
+    case WB_RESP_NO_LINE_END: return "no CR LF where a line or a bulk string must end";
     default: return "no cause";
     }
 }

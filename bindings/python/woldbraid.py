@@ -1,10 +1,12 @@
 """Readers of formats over input that comes in pieces, by ctypes over libwoldbraid.
 
-    >>> from woldbraid import csv_records, json_events
+    >>> from woldbraid import csv_records, json_events, resp_events
     >>> list(json_events([b'{"a": [1, tr', b'ue]}']))
     [('start_object', None), ('key', 'a'), ('start_array', None), ('number', 1), ('boolean', True), ('end_array', None), ('end_object', None)]
     >>> list(csv_records([b'a,"b', b'"\n']))
     [[b'a', b'b']]
+    >>> list(resp_events([b'*2\\r\\n:7\\r\\n$2\\r', b'\\nab\\r\\n']))
+    [('start_array', 2), ('integer', 7), ('bulk', b'ab'), ('end_array', None)]
 
 Pieces are any iterable of bytes, such as a file that was opened in binary mode, or the bytes of a whole text. The library is the file that the environment variable WOLDBRAID_LIBRARY names, else
 `../../lib/libwoldbraid.so` from the folder of this file, else the one that the system finds.
@@ -17,6 +19,7 @@ OK, DONE, NEEDS_MORE, FULL, ENDED, TOO_LONG, REFUSED, DAMAGED, UNEXPECTED, TOO_D
 MISUSED = 100
 KINDS = ("none", "start_array", "end_array", "start_object", "end_object", "key", "null", "boolean", "boolean", "number", "string")
 TRUE, NUMBER = 8, 9
+RESP_KINDS = ("none", "start_array", "end_array", "simple", "error", "integer", "bulk", "null_bulk", "null_array")
 
 
 class JsonLimits(ctypes.Structure):
@@ -51,6 +54,26 @@ class CsvRecord(ctypes.Structure):
     _fields_ = [("text", ctypes.c_void_p), ("ends", ctypes.POINTER(ctypes.c_size_t)), ("count", ctypes.c_size_t), ("place", ctypes.c_size_t)]
 
 
+class RespLimits(ctypes.Structure):
+    """What a reader may keep."""
+
+    _fields_ = [("depth", ctypes.c_size_t), ("longest", ctypes.c_size_t), ("kept", ctypes.c_size_t)]
+
+
+class RespEvent(ctypes.Structure):
+    """An event of replies, or why there is none."""
+
+    _fields_ = [
+        ("kind", ctypes.c_uint32),
+        ("cause", ctypes.c_uint32),
+        ("text", ctypes.c_void_p),
+        ("length", ctypes.c_size_t),
+        ("integer", ctypes.c_int64),
+        ("count", ctypes.c_size_t),
+        ("place", ctypes.c_size_t),
+    ]
+
+
 def load():
     """Returns the library, with the types of its calls."""
     beside = os.path.join(os.path.dirname(os.path.abspath(__file__)), "..", "..", "lib", "libwoldbraid.so")
@@ -78,6 +101,17 @@ def load():
         ("wb_csv_held", ctypes.c_size_t, [ctypes.c_void_p]),
         ("wb_csv_place", ctypes.c_size_t, [ctypes.c_void_p]),
         ("wb_csv_free", None, [ctypes.c_void_p]),
+        ("wb_resp_new", ctypes.c_void_p, [ctypes.POINTER(RespLimits)]),
+        ("wb_resp_of", ctypes.c_void_p, [ctypes.c_char_p, ctypes.c_size_t, ctypes.POINTER(RespLimits)]),
+        ("wb_resp_push", ctypes.c_uint32, [ctypes.c_void_p, ctypes.c_char_p, ctypes.c_size_t]),
+        ("wb_resp_end", ctypes.c_uint32, [ctypes.c_void_p]),
+        ("wb_resp_next", ctypes.c_uint32, [ctypes.c_void_p, ctypes.POINTER(RespEvent)]),
+        ("wb_resp_fed", ctypes.c_size_t, [ctypes.c_void_p]),
+        ("wb_resp_held", ctypes.c_size_t, [ctypes.c_void_p]),
+        ("wb_resp_place", ctypes.c_size_t, [ctypes.c_void_p]),
+        ("wb_resp_level", ctypes.c_size_t, [ctypes.c_void_p]),
+        ("wb_resp_free", None, [ctypes.c_void_p]),
+        ("wb_resp_cause_text", ctypes.c_char_p, [ctypes.c_uint32]),
         ("wb_status_text", ctypes.c_char_p, [ctypes.c_uint32]),
         ("wb_json_cause_text", ctypes.c_char_p, [ctypes.c_uint32]),
     ):
@@ -92,9 +126,9 @@ LIBRARY = load()
 class ReadError(ValueError):
     """Why there is no event: `status`, and `place`, the offset of an error in bytes, or None; `cause` is the number of what is wrong, or 0."""
 
-    def __init__(self, status, place=None, cause=0):
+    def __init__(self, status, place=None, cause=0, cause_text=None):
         self.status, self.place, self.cause = status, place, cause
-        text = LIBRARY.wb_json_cause_text(cause) if cause else LIBRARY.wb_status_text(status)
+        text = cause_text(cause) if cause else LIBRARY.wb_status_text(status)
         super().__init__(text.decode() + ("" if place is None else f", at byte {place}"))
 
 
@@ -164,7 +198,7 @@ class JsonReader:
             raise MemoryError("memory was refused")
         if status != OK:
             has_place = status in (DAMAGED, UNEXPECTED, TOO_DEEP, ENDS_EARLY)
-            raise ReadError(status, self._event.place if has_place else None, self._event.cause if status == DAMAGED else 0)
+            raise ReadError(status, self._event.place if has_place else None, self._event.cause if status == DAMAGED else 0, LIBRARY.wb_json_cause_text)
 
     def _value(self):
         event = self._event
@@ -268,3 +302,92 @@ def csv_records(pieces, kept=1 << 24):
             yield from reader.records()
         reader.end()
         yield from reader.records()
+
+
+class RespReader:
+    """A reader of the events of replies of a Redis server, within `depth` arrays and with texts of `longest` bytes; `kept` bytes may wait to be read when a piece is pushed."""
+
+    def __init__(self, depth=32, longest=1 << 29, kept=(1 << 29) + (1 << 24)):
+        self._event = RespEvent()
+        self._reader = LIBRARY.wb_resp_new(RespLimits(depth, longest, kept))
+        if not self._reader:
+            raise MemoryError("memory was refused")
+
+    def push(self, piece):
+        """Appends a piece to what waits to be read."""
+        piece = bytes(memoryview(piece))
+        self._check(LIBRARY.wb_resp_push(self._reader, piece, len(piece)))
+
+    def end(self):
+        """Notes that no more follows."""
+        self._check(LIBRARY.wb_resp_end(self._reader))
+
+    def events(self):
+        """Yields the events that the pieces so far have, each as its kind and its value: the count of an array that begins, the bytes of a text, an integer, or None."""
+        while True:
+            status = LIBRARY.wb_resp_next(self._reader, self._event)
+            if status in (DONE, NEEDS_MORE):
+                return
+            self._check(status)
+            yield RESP_KINDS[self._event.kind], self._value()
+
+    @property
+    def fed(self):
+        """How many bytes were pushed."""
+        return LIBRARY.wb_resp_fed(self._reader)
+
+    @property
+    def held(self):
+        """How many bytes of the input are kept."""
+        return LIBRARY.wb_resp_held(self._reader)
+
+    @property
+    def place(self):
+        """How many bytes of the input were read."""
+        return LIBRARY.wb_resp_place(self._reader)
+
+    @property
+    def level(self):
+        """How many arrays are open."""
+        return LIBRARY.wb_resp_level(self._reader)
+
+    def close(self):
+        """Frees the reader."""
+        reader, self._reader = getattr(self, "_reader", None), None
+        if reader:
+            LIBRARY.wb_resp_free(reader)
+
+    __del__ = close
+
+    def __enter__(self):
+        return self
+
+    def __exit__(self, *_):
+        self.close()
+
+    def _check(self, status):
+        if status == REFUSED:
+            raise MemoryError("memory was refused")
+        if status != OK:
+            has_place = status in (DAMAGED, TOO_DEEP, ENDS_EARLY)
+            raise ReadError(status, self._event.place if has_place else None, self._event.cause if has_place else 0, LIBRARY.wb_resp_cause_text)
+
+    def _value(self):
+        kind = RESP_KINDS[self._event.kind]
+        if kind == "start_array":
+            return self._event.count
+        if kind == "integer":
+            return self._event.integer
+        return ctypes.string_at(self._event.text, self._event.length) if kind in ("simple", "error", "bulk") else None
+
+
+def resp_events(pieces, depth=32, longest=1 << 29, kept=(1 << 29) + (1 << 24)):
+    """Yields the events of replies that come in pieces, each as its kind and its value."""
+    if isinstance(pieces, (bytes, bytearray, memoryview)):
+        pieces = (pieces,)
+    with RespReader(depth, longest, kept) as reader:
+        for piece in pieces:
+            reader.push(piece)
+            yield from reader.events()
+        reader.end()
+        yield from reader.events()

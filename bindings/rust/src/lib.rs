@@ -55,7 +55,35 @@ struct RawRecord {
     place: usize,
 }
 
+/// The limits of a reader of replies.
+#[repr(C)]
+struct RespLimits {
+    depth: usize,
+    longest: usize,
+    kept: usize,
+}
+
+#[repr(C)]
+struct RawReply {
+    kind: u32,
+    cause: u32,
+    text: *const u8,
+    length: usize,
+    integer: i64,
+    count: usize,
+    place: usize,
+}
+
 extern "C" {
+    fn wb_resp_new(limits: *const RespLimits) -> *mut Opaque;
+    fn wb_resp_push(reader: *mut Opaque, piece: *const u8, length: usize) -> u32;
+    fn wb_resp_end(reader: *mut Opaque) -> u32;
+    fn wb_resp_next(reader: *mut Opaque, event: *mut RawReply) -> u32;
+    fn wb_resp_fed(reader: *mut Opaque) -> usize;
+    fn wb_resp_held(reader: *mut Opaque) -> usize;
+    fn wb_resp_place(reader: *mut Opaque) -> usize;
+    fn wb_resp_level(reader: *mut Opaque) -> usize;
+    fn wb_resp_free(reader: *mut Opaque);
     fn wb_csv_new(limits: *const CsvLimits) -> *mut Opaque;
     fn wb_csv_push(reader: *mut Opaque, piece: *const u8, length: usize) -> u32;
     fn wb_csv_end(reader: *mut Opaque) -> u32;
@@ -75,6 +103,7 @@ extern "C" {
     fn wb_json_free(reader: *mut Opaque);
     fn wb_status_text(status: u32) -> *const c_char;
     fn wb_json_cause_text(cause: u32) -> *const c_char;
+    fn wb_resp_cause_text(cause: u32) -> *const c_char;
 }
 
 /// An event of a JSON text. A text that it lends stays until the next call of the reader.
@@ -108,10 +137,12 @@ pub enum Next<'a> {
 pub struct Error {
     /// The status, as `WB_DAMAGED`
     pub status: u32,
-    /// What is wrong if the input is damaged, as `WB_JSON_BAD_ESCAPE`, else 0
+    /// What is wrong with a JSON text or a reply, as `WB_JSON_BAD_ESCAPE` or `WB_RESP_NO_KIND`, else 0
     pub cause: u32,
     /// The offset in bytes of the error in the input, else 0
     pub place: usize,
+    // Whether the cause is one of a reply.
+    is_of_reply: bool,
 }
 
 const OK: u32 = 0;
@@ -121,7 +152,7 @@ const REFUSED: u32 = 6;
 
 impl Error {
     fn of(status: u32) -> Self {
-        Error { status, cause: 0, place: 0 }
+        Error { status, cause: 0, place: 0, is_of_reply: false }
     }
 
     /// Returns whether memory was refused: then nothing is lost, and the call may be made again.
@@ -132,9 +163,13 @@ impl Error {
 
 impl fmt::Display for Error {
     fn fmt(&self, f: &mut fmt::Formatter<'_>) -> fmt::Result {
-        // SAFETY: both calls return a text that ends in a zero and is never freed.
+        // SAFETY: each of the calls returns a text that ends in a zero and is never freed.
         let text = unsafe {
-            CStr::from_ptr(if self.cause == 0 { wb_status_text(self.status) } else { wb_json_cause_text(self.cause) })
+            CStr::from_ptr(match (self.cause, self.is_of_reply) {
+                (0, _) => wb_status_text(self.status),
+                (cause, false) => wb_json_cause_text(cause),
+                (cause, true) => wb_resp_cause_text(cause),
+            })
         };
         write!(f, "{}, at byte {}", text.to_string_lossy(), self.place)
     }
@@ -208,7 +243,7 @@ impl JsonReader {
             OK => {}
             DONE => return Ok(Next::Done),
             NEEDS_MORE => return Ok(Next::NeedsMore),
-            _ => return Err(Error { status, cause: event.cause, place: event.place }),
+            _ => return Err(Error { status, cause: event.cause, place: event.place, is_of_reply: false }),
         }
         let bytes = if event.length == 0 {
             &[][..]
@@ -403,7 +438,7 @@ impl CsvReader {
             OK => {}
             DONE => return Ok(NextRecord::Done),
             NEEDS_MORE => return Ok(NextRecord::NeedsMore),
-            _ => return Err(Error { status, cause: 0, place: record.place }),
+            _ => return Err(Error { status, cause: 0, place: record.place, is_of_reply: false }),
         }
         // SAFETY: the library lends the offsets until the next call, which borrows the reader anew, and a record has at least one field.
         let ends = unsafe { std::slice::from_raw_parts(record.ends, record.count) };
@@ -436,5 +471,123 @@ impl Drop for CsvReader {
     fn drop(&mut self) {
         // SAFETY: the reader was made, and is freed here alone.
         unsafe { wb_csv_free(self.reader.as_ptr()) };
+    }
+}
+
+/// An event of replies of a Redis server. Bytes that it lends stay until the next call of the reader.
+#[derive(Clone, Copy, Debug, PartialEq, Eq)]
+pub enum Reply<'a> {
+    /// An array begins, of this number of replies
+    StartArray(usize),
+    EndArray,
+    Simple(&'a [u8]),
+    Error(&'a [u8]),
+    Integer(i64),
+    Bulk(&'a [u8]),
+    NullBulk,
+    NullArray,
+}
+
+/// What a reader of replies has next.
+#[derive(Clone, Copy, Debug, PartialEq, Eq)]
+pub enum NextReply<'a> {
+    Reply(Reply<'a>),
+    /// A piece or the end of the input is awaited
+    NeedsMore,
+    /// The input is read to its end
+    Done,
+}
+
+/// A reader of the events of replies that come in pieces.
+pub struct RespReader {
+    reader: NonNull<Opaque>,
+    // It stays on its thread.
+    marker: PhantomData<*mut u8>,
+}
+
+impl RespReader {
+    /// Returns a reader of replies within `depth` arrays, with texts of at most `longest` bytes, which takes a piece while at most `kept` bytes
+    /// wait to be read; or `None` when memory is refused.
+    pub fn new(depth: usize, longest: usize, kept: usize) -> Option<Self> {
+        // SAFETY: the limits are there for the call.
+        let reader = unsafe { wb_resp_new(&RespLimits { depth, longest, kept }) };
+        Some(RespReader { reader: NonNull::new(reader)?, marker: PhantomData })
+    }
+
+    /// Appends a piece to what waits to be read.
+    pub fn push(&mut self, piece: &[u8]) -> Result<(), Error> {
+        // SAFETY: the reader was made and not freed, and the piece has as many bytes as its length says.
+        match unsafe { wb_resp_push(self.reader.as_ptr(), piece.as_ptr(), piece.len()) } {
+            OK => Ok(()),
+            status => Err(Error::of(status)),
+        }
+    }
+
+    /// Notes that no more follows.
+    pub fn end(&mut self) {
+        // SAFETY: the reader was made and not freed.
+        unsafe { wb_resp_end(self.reader.as_ptr()) };
+    }
+
+    /// Reads the next event.
+    #[allow(clippy::should_implement_trait)]
+    pub fn next(&mut self) -> Result<NextReply<'_>, Error> {
+        let mut event = RawReply { kind: 0, cause: 0, text: std::ptr::null(), length: 0, integer: 0, count: 0, place: 0 };
+        // SAFETY: the reader was made and not freed, and the event is there for the call.
+        let status = unsafe { wb_resp_next(self.reader.as_ptr(), &mut event) };
+        match status {
+            OK => {}
+            DONE => return Ok(NextReply::Done),
+            NEEDS_MORE => return Ok(NextReply::NeedsMore),
+            _ => return Err(Error { status, cause: event.cause, place: event.place, is_of_reply: true }),
+        }
+        let bytes = if event.length == 0 {
+            &[][..]
+        } else {
+            // SAFETY: the library lends these bytes until the next call, which borrows the reader anew.
+            unsafe { std::slice::from_raw_parts(event.text, event.length) }
+        };
+        Ok(NextReply::Reply(match event.kind {
+            1 => Reply::StartArray(event.count),
+            2 => Reply::EndArray,
+            3 => Reply::Simple(bytes),
+            4 => Reply::Error(bytes),
+            5 => Reply::Integer(event.integer),
+            6 => Reply::Bulk(bytes),
+            7 => Reply::NullBulk,
+            8 => Reply::NullArray,
+            _ => return Err(Error::of(u32::MAX)),
+        }))
+    }
+
+    /// Returns how many bytes were pushed.
+    pub fn fed(&mut self) -> usize {
+        // SAFETY: the reader was made and not freed.
+        unsafe { wb_resp_fed(self.reader.as_ptr()) }
+    }
+
+    /// Returns how many bytes of the input are kept.
+    pub fn held(&mut self) -> usize {
+        // SAFETY: the reader was made and not freed.
+        unsafe { wb_resp_held(self.reader.as_ptr()) }
+    }
+
+    /// Returns how many bytes of the input were read.
+    pub fn place(&mut self) -> usize {
+        // SAFETY: the reader was made and not freed.
+        unsafe { wb_resp_place(self.reader.as_ptr()) }
+    }
+
+    /// Returns how many arrays are open.
+    pub fn level(&mut self) -> usize {
+        // SAFETY: the reader was made and not freed.
+        unsafe { wb_resp_level(self.reader.as_ptr()) }
+    }
+}
+
+impl Drop for RespReader {
+    fn drop(&mut self) {
+        // SAFETY: the reader was made, and is freed here alone.
+        unsafe { wb_resp_free(self.reader.as_ptr()) };
     }
 }

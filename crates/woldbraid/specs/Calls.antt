@@ -1,12 +1,15 @@
 -- What an export makes of the reader of a handle.
 use Rattle.std.specs.Prelude.{◌≡◌, ℕ, List, [], false, Option, Some, None}
 use Rattle.format_json_events.specs.Reading.{new_reader, HasGiven}
+use Rattle.format_resp.specs.declared.grammar.ReplyTo.{ReplyTo}
+use Rattle.format_resp_events.specs.Reading.{new_reader as new_replies, HasGiven as HasGivenReplies}
 use Rattle.woldbraid_readers.specs.Codes.{status_code}
-use Rattle.woldbraid_readers.specs.KeptCalls.{PushesKept, EndsKept, ReadsEvent, ReadsRow, fed_kept, held_kept, place_kept, level_kept}
+use Rattle.woldbraid_readers.specs.KeptCalls.{PushesKept, EndsKept, ReadsEvent, ReadsRow, ReadsReply, fed_kept, held_kept, place_kept, level_kept}
 use Rattle.woldbraid_readers.specs.declared.status.Status.{Status}
 use Rattle.woldbraid_readers.specs.declared.status.Status.TheVariants as status
 use Rattle.woldbraid_readers.specs.declared.json_event.JsonEvent.{JsonEvent}
 use Rattle.woldbraid_readers.specs.declared.csv_record.CsvRecord.{CsvRecord}
+use Rattle.woldbraid_readers.specs.declared.resp_event.RespEvent.{RespEvent}
 use Rattle.format_csv.specs.RowReader.{HasRead}
 use Rattle.woldbraid_readers.specs.declared.kept.Kept.{Kept}
 use Rattle.woldbraid_readers.specs.declared.kept.Kept.TheVariants as kept
@@ -33,6 +36,12 @@ IsNewCsv limit (kept.Csv r) = HasRead r.reader [] [] × (r.reader.ended ≡ fals
     × (r.waits ≡ false) × (r.kept ≡ limit)
 IsNewCsv limit other = ⊥
 
+-- a reader of replies to which nothing was pushed, within these limits
+abbrev pub IsNewResp : ReplyTo → ℕ → Kept → Type 0
+IsNewResp limits limit (kept.Resp r) = (r.reader ≡ new_replies limits)
+    × HasGivenReplies r.reader [] [] × (r.kept ≡ limit)
+IsNewResp limits limit other = ⊥
+
 -- a new reader of a JSON text is there; or memory was refused, and there is none
 abbrev pub MakesReader : ℕ → ℕ → ℕ → Option Kept → Type 0
 MakesReader depth limit code (Some new) =
@@ -43,6 +52,12 @@ MakesReader depth limit code None = code ≡ status_code status.Refused
 abbrev pub MakesCsvReader : ℕ → ℕ → Option Kept → Type 0
 MakesCsvReader limit code (Some new) = (code ≡ status_code status.Ok) × IsNewCsv limit new
 MakesCsvReader limit code None = code ≡ status_code status.Refused
+
+-- a new reader of replies is there; or memory was refused, and there is none
+abbrev pub MakesRespReader : ReplyTo → ℕ → ℕ → Option Kept → Type 0
+MakesRespReader limits limit code (Some new) =
+    (code ≡ status_code status.Ok) × IsNewResp limits limit new
+MakesRespReader limits limit code None = code ≡ status_code status.Refused
 
 -- the piece was pushed, or nothing was, for the reason of the status
 abbrev pub PushesPiece : Option Kept → List ℕ → ℕ → Option Kept → Type 0
@@ -62,6 +77,11 @@ NextEvent old code shown new =
 abbrev pub NextRecord : Option Kept → ℕ → CsvRecord → Option Kept → Type 0
 NextRecord old code shown new =
     Turns old (λ before after. Says code (λ s. ReadsRow before s shown after)) new
+
+-- the reader of replies answered something, and the status and the struct say so
+abbrev pub NextReply : Option Kept → ℕ → RespEvent → Option Kept → Type 0
+NextReply old code shown new =
+    Turns old (λ before after. Says code (λ s. ReadsReply before s shown after)) new
 
 -- the number is what is counted of the reader, which is as before
 abbrev pub Counts : (Kept → ℕ) → Option Kept → ℕ → Option Kept → Type 0

@@ -2,7 +2,7 @@
 
 ghost use Rattle.std.specs.Prelude.{◌≡◌, None};
 ghost use Rattle.woldbraid.specs.Handles.{HasReader};
-ghost use Rattle.woldbraid.specs.Calls.{MakesReader, NextEvent, CountsLevel};
+ghost use Rattle.woldbraid.specs.Calls.{MakesReader, NextEvent};
 
 use crate::handle::Handle;
 use std::alloc::Global;
@@ -44,16 +44,4 @@ pub extern "C" fn woldbraid_json_next(
     let status = reader.next_event(event);
     handle.put(reader);
     status.code()
-}
-
-/// Returns how many arrays and objects of a JSON text are open.
-#[unsafe(no_mangle)]
-pub extern "C" fn woldbraid_json_level(handle: &mut Handle, alloc: Global) -> usize
-    requires { HasReader handle.old.value }
-    ensures { CountsLevel handle.old.value result handle.new.value }
-{
-    let reader = handle.take(alloc);
-    let level = reader.level();
-    handle.put(reader);
-    level
 }

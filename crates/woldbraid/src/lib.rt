@@ -10,10 +10,13 @@ mod handle;
 mod json;
 mod loose;
 mod readers;
+mod resp;
 
 pub use csv::{woldbraid_csv_new, woldbraid_csv_next};
 pub use handle::Handle;
-pub use json::{woldbraid_json_level, woldbraid_json_new, woldbraid_json_next};
+pub use json::{woldbraid_json_new, woldbraid_json_next};
 pub use readers::{
-    woldbraid_end, woldbraid_fed, woldbraid_free, woldbraid_held, woldbraid_place, woldbraid_push,
+    woldbraid_end, woldbraid_fed, woldbraid_free, woldbraid_held, woldbraid_level, woldbraid_place,
+    woldbraid_push,
 };
+pub use resp::{woldbraid_resp_new, woldbraid_resp_next};

@@ -2,7 +2,8 @@
 
 ghost use Rattle.std.specs.Prelude.{◌≡◌, None};
 ghost use Rattle.woldbraid.specs.Handles.{HasReader};
-ghost use Rattle.woldbraid.specs.Calls.{PushesPiece, EndsInput, CountsFed, CountsHeld, CountsRead};
+ghost use Rattle.woldbraid.specs.Calls.{PushesPiece, EndsInput};
+ghost use Rattle.woldbraid.specs.Calls.{CountsFed, CountsHeld, CountsRead, CountsLevel};
 
 use crate::handle::Handle;
 use std::alloc::Global;
@@ -64,6 +65,18 @@ pub extern "C" fn woldbraid_place(handle: &mut Handle, alloc: Global) -> usize
     let place = reader.place();
     handle.put(reader);
     place
+}
+
+/// Returns how many arrays and objects are open, or 0 of comma-separated values.
+#[unsafe(no_mangle)]
+pub extern "C" fn woldbraid_level(handle: &mut Handle, alloc: Global) -> usize
+    requires { HasReader handle.old.value }
+    ensures { CountsLevel handle.old.value result handle.new.value }
+{
+    let reader = handle.take(alloc);
+    let level = reader.level();
+    handle.put(reader);
+    level
 }
 
 /// Frees a reader. The handle has none then.

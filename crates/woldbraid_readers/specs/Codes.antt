@@ -2,10 +2,14 @@
 use Rattle.std.specs.Prelude.{ℕ}
 use Rattle.format_json.specs.declared.causes.Cause.{Cause}
 use Rattle.format_json.specs.declared.causes.Cause.TheVariants as cause
+use Rattle.format_resp.specs.declared.causes.Cause as resp_cause
+use Rattle.format_resp.specs.declared.causes.Cause.TheVariants as broken
 use Rattle.woldbraid_readers.specs.declared.status.Status.{Status}
 use Rattle.woldbraid_readers.specs.declared.status.Status.TheVariants as status
 use Rattle.woldbraid_readers.specs.declared.json_event.JsonKind.{JsonKind}
 use Rattle.woldbraid_readers.specs.declared.json_event.JsonKind.TheVariants as kind
+use Rattle.woldbraid_readers.specs.declared.resp_event.RespKind.{RespKind}
+use Rattle.woldbraid_readers.specs.declared.resp_event.RespKind.TheVariants as reply
 
 -- of a status
 abbrev pub status_code : Status → ℕ
@@ -50,3 +54,25 @@ cause_code cause.BadEscape = 9
 cause_code cause.LoneSurrogate = 10
 cause_code cause.ControlCharacter = 11
 cause_code cause.BadUtf8 = 12
+
+-- of a kind of event of replies
+abbrev pub reply_code : RespKind → ℕ
+reply_code reply.None = 0
+reply_code reply.StartArray = 1
+reply_code reply.EndArray = 2
+reply_code reply.Simple = 3
+reply_code reply.Error = 4
+reply_code reply.Integer = 5
+reply_code reply.Bulk = 6
+reply_code reply.NullBulk = 7
+reply_code reply.NullArray = 8
+
+-- of a cause for which a reply breaks off
+abbrev pub reply_cause_code : resp_cause.Cause → ℕ
+reply_cause_code broken.EndsInside = 1
+reply_cause_code broken.NoKind = 2
+reply_cause_code broken.TooDeep = 3
+reply_cause_code broken.NoInteger = 4
+reply_cause_code broken.NoLength = 5
+reply_cause_code broken.TooLong = 6
+reply_cause_code broken.NoLineEnd = 7

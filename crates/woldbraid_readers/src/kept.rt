@@ -1,13 +1,15 @@
 //! `Kept`: a reader of one of the formats, as a handle of C holds it.
 
 ghost use Rattle.std.specs.Prelude.{◌≡◌};
-ghost use Rattle.woldbraid_readers.specs.KeptCalls.{PushesKept, EndsKept, ReadsEvent, ReadsRow};
+ghost use Rattle.woldbraid_readers.specs.KeptCalls.{PushesKept, EndsKept, ReadsEvent, ReadsRow, ReadsReply};
 ghost use Rattle.woldbraid_readers.specs.KeptCalls.{fed_kept, held_kept, place_kept, level_kept};
 
 use crate::csv_reader::CsvReader;
 use crate::csv_record::CsvRecord;
 use crate::json_event::JsonEvent;
 use crate::json_reader::JsonReader;
+use crate::resp_event::RespEvent;
+use crate::resp_reader::RespReader;
 use crate::status::Status;
 
 /// A reader of one of the formats of the C library.
@@ -17,6 +19,8 @@ pub enum Kept {
     Json(JsonReader),
     /// A reader of records of comma-separated values
     Csv(CsvReader),
+    /// A reader of the events of replies of the Redis protocol
+    Resp(RespReader),
 }
 
 impl Kept {
@@ -27,6 +31,7 @@ impl Kept {
         match self {
             Kept::Json(reader) => reader.push(piece),
             Kept::Csv(reader) => reader.push(piece),
+            Kept::Resp(reader) => reader.push(piece),
         }
     }
 
@@ -37,6 +42,7 @@ impl Kept {
         match self {
             Kept::Json(reader) => reader.end(),
             Kept::Csv(reader) => reader.end(),
+            Kept::Resp(reader) => reader.end(),
         }
     }
 
@@ -46,7 +52,7 @@ impl Kept {
     {
         match self {
             Kept::Json(reader) => reader.next_event(event),
-            Kept::Csv(_) => Status::OtherFormat,
+            Kept::Csv(_) | Kept::Resp(_) => Status::OtherFormat,
         }
     }
 
@@ -56,7 +62,17 @@ impl Kept {
     {
         match self {
             Kept::Csv(reader) => reader.next_record(shown),
-            Kept::Json(_) => Status::OtherFormat,
+            Kept::Json(_) | Kept::Resp(_) => Status::OtherFormat,
+        }
+    }
+
+    /// Reads the next event of replies.
+    pub fn next_reply(&mut self, event: &mut RespEvent) -> Status
+        ensures { ReadsReply self.old result event.new self.new }
+    {
+        match self {
+            Kept::Resp(reader) => reader.next_event(event),
+            Kept::Json(_) | Kept::Csv(_) => Status::OtherFormat,
         }
     }
 
@@ -67,6 +83,7 @@ impl Kept {
         match self {
             Kept::Json(reader) => reader.fed(),
             Kept::Csv(reader) => reader.fed(),
+            Kept::Resp(reader) => reader.fed(),
         }
     }
 
@@ -77,6 +94,7 @@ impl Kept {
         match self {
             Kept::Json(reader) => reader.held(),
             Kept::Csv(reader) => reader.held(),
+            Kept::Resp(reader) => reader.held(),
         }
     }
 
@@ -87,16 +105,18 @@ impl Kept {
         match self {
             Kept::Json(reader) => reader.place(),
             Kept::Csv(reader) => reader.place(),
+            Kept::Resp(reader) => reader.place(),
         }
     }
 
-    /// Returns how many arrays and objects of a JSON text are open.
+    /// Returns how many arrays and objects are open, or 0 of comma-separated values.
     pub fn level(&self) -> usize
         ensures { result ≡ level_kept self.now }
     {
         match self {
             Kept::Json(reader) => reader.level(),
             Kept::Csv(_) => 0,
+            Kept::Resp(reader) => reader.level(),
         }
     }
 }

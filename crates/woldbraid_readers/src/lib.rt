@@ -10,6 +10,8 @@ mod csv_record;
 mod json_event;
 mod json_reader;
 mod kept;
+mod resp_event;
+mod resp_reader;
 mod status;
 
 pub use csv_reader::CsvReader;
@@ -17,4 +19,6 @@ pub use csv_record::CsvRecord;
 pub use json_event::{JsonEvent, JsonKind};
 pub use json_reader::JsonReader;
 pub use kept::Kept;
+pub use resp_event::{RespEvent, RespKind};
+pub use resp_reader::RespReader;
 pub use status::Status;
