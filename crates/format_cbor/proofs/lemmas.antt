@@ -1,0 +1,3 @@
+pub mod HeadReading
+pub mod ItemReading
+pub mod ScalarReading
