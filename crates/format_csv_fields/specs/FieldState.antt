@@ -1,5 +1,5 @@
 -- What a reader of fields shows, and what a call makes of it.
-use Rattle.std.specs.Prelude.{ℕ, Bool, true, false, List, []}
+use Rattle.std.specs.Prelude.{ℕ, Bool, false, List, []}
 use Rattle.winnow_reader.specs.State.{ReaderState, at_start, pushed, unspent, ended_after}
 use Rattle.format_csv.specs.declared.grammar.Row.{Row}
 

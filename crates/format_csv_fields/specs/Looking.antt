@@ -1,5 +1,5 @@
 -- How far a field was looked at, and its text. 34 is a quote.
-use Rattle.std.specs.Prelude.{◌≡◌, ℕ, ◌+◌, ◌≤◌, Bool, true, false, List, [], ◌∷◌, ◌++◌, length, take, drop}
+use Rattle.std.specs.Prelude.{◌≡◌, ℕ, ◌+◌, ◌≤◌, Bool, false, List, ◌∷◌, ◌++◌, length, take, drop}
 use Rattle.format_lemmas.specs.Bytes.{Each, StartsWith, Starts}
 use Rattle.format_csv.specs.Fields.{is_plain, doubled}
 use Rattle.format_csv.specs.Meanings.{is_other}

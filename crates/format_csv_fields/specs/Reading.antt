@@ -1,5 +1,5 @@
 -- The fields that a reader has read of bytes in pieces, and the result of a call.
-use Rattle.std.specs.Prelude.{◌≡◌, ◌≢◌, ℕ, ◌+◌, ◌≤◌, ◌<◌, Bool, true, false, List, [], ◌∷◌, ◌++◌, length, Result, Ok, Err, ⊤}
+use Rattle.std.specs.Prelude.{◌≡◌, ℕ, ◌+◌, ◌≤◌, ◌<◌, Bool, true, false, List, [], ◌∷◌, ◌++◌, length, Result, Ok, Err, ⊤}
 use Rattle.winnow_reader.specs.Reading.{MayFollow}
 use Rattle.winnow_reader.specs.State.{taken_by, fed_of}
 use Rattle.winnow_reader.specs.SameValues.{IsThrough}

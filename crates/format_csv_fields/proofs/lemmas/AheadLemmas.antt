@@ -1,20 +1,19 @@
 -- Lemmas on a field that is ahead, and on what follows it.
-use Rattle.std.specs.Prelude.{Bool, true, false, not, drop, ◌⊎◌}
-use Rattle.std.proofs.Common.{◌≡◌, ◌≢◌, ℕ, ◌+◌, ◌-◌, ◌≤◌, ◌<◌, List, [], ◌∷◌, ◌++◌, length, refl, inl, inr, ap, sym, ◌∙◌, subst, arith, append_assoc, length-append}
+use Rattle.std.specs.Prelude.{Bool, true, false, not, ◌⊎◌}
+use Rattle.std.proofs.Common.{◌≡◌, ◌≢◌, ℕ, ◌+◌, ◌≤◌, ◌<◌, List, [], ◌∷◌, ◌++◌, length, refl, inl, inr, ap, sym, ◌∙◌, subst, arith, append_assoc, length-append}
 use Rattle.std.proofs.lemmas.List.{append-nil}
 use Rattle.std.proofs.lemmas.Bool.Decides.{leb_tells}
 use Rattle.winnow_reader.specs.Reading.{MayFollow}
-use Rattle.format_lemmas.specs.Bytes.{Each, StartsWith, Starts}
+use Rattle.format_lemmas.specs.Bytes.{Each, StartsWith}
 use Rattle.format_lemmas.proofs.lemmas.ByteLemmas.{heads, tails, begins}
 use Rattle.format_csv.specs.Fields.{is_plain, doubled, SpellsField}
-use Rattle.format_csv.specs.Language.{EndsRecord}
 use Rattle.format_csv.specs.FillingFields.{BeginsField, IsUnclosedField}
 use Rattle.format_csv.proofs.lemmas.FieldLemmas.{StopsAt, field-spelled, field-once, open-not}
 use Rattle.format_csv.proofs.lemmas.RecordLemmas.{more-stop, ends-no-comma, ends-once, open-spelled}
 use Rattle.format_csv.proofs.lemmas.FillFieldLemmas.{field-more}
 use Rattle.format_csv_fields.specs.declared.after.Ending.{Ending}
 use Rattle.format_csv_fields.specs.declared.after.Ending.TheVariants.{Comma, Record}
-use Rattle.format_csv_fields.specs.FieldAhead.{EndsField, FieldAhead, BeginsJust, HasField, IsUnfinished, IsDamagedBefore, IsTooLong}
+use Rattle.format_csv_fields.specs.FieldAhead.{EndsField, FieldAhead, BeginsJust, IsUnfinished, IsDamagedBefore}
 
 -- ---- Endings
 

@@ -1,12 +1,11 @@
 -- Lemmas on fields with a comma after each.
-use Rattle.std.specs.Prelude.{Bool, true, false}
-use Rattle.std.proofs.Common.{◌≡◌, ◌≢◌, ℕ, List, [], ◌∷◌, ◌++◌, refl, inl, inr, ap, sym, ◌∙◌, subst, arith, append_assoc}
+use Rattle.std.specs.Prelude.{Bool, false}
+use Rattle.std.proofs.Common.{◌≡◌, ◌≢◌, ℕ, List, [], ◌∷◌, ◌++◌, refl, inl, inr, ap, sym, ◌∙◌, subst, append_assoc}
 use Rattle.std.proofs.lemmas.List.{append-nil}
 use Rattle.format_lemmas.specs.Bytes.{StartsWith}
 use Rattle.format_lemmas.proofs.lemmas.ByteLemmas.{some}
 use Rattle.format_csv.specs.Fields.{SpellsField}
-use Rattle.format_csv.specs.Language.{SpellsMore, SpellsRecord, EndsRecord, RecordAhead}
-use Rattle.format_csv.specs.Damage.{BreaksOff, IsUnclosed}
+use Rattle.format_csv.specs.Language.{SpellsMore, SpellsRecord}
 use Rattle.format_csv.specs.Tables.{HasNoRecord, IsDamagedAt}
 use Rattle.format_csv.specs.FillingFields.{BeginsField}
 use Rattle.format_csv.proofs.lemmas.FillFieldLemmas.{Spelled, peel}

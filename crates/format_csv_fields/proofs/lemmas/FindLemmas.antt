@@ -1,14 +1,12 @@
 -- Lemmas on the results of looking for a field within a limit.
-use Rattle.std.specs.Prelude.{Bool, true, false, not, drop, ◌⊎◌}
-use Rattle.std.proofs.Common.{◌≡◌, ◌≢◌, ℕ, ◌+◌, ◌-◌, ◌≤◌, ◌<◌, List, [], ◌∷◌, ◌++◌, length, take, refl, inl, inr, ap, sym, ◌∙◌, subst, arith, length-drop, take-append-drop, drop_of_length-le}
-use Rattle.format_csv.specs.Fields.{is_plain}
+use Rattle.std.specs.Prelude.{Bool, true, false, drop, ◌⊎◌}
+use Rattle.std.proofs.Common.{◌≡◌, ℕ, ◌+◌, ◌≤◌, ◌<◌, List, [], ◌∷◌, length, take, refl, inl, inr, ap, sym, subst, arith, length-drop, take-append-drop, drop_of_length-le}
 use Rattle.format_csv.specs.FillingFields.{BeginsField, IsUnclosedField}
-use Rattle.format_lemmas.specs.Bytes.{Each}
 use Rattle.format_csv_fields.specs.declared.looking.Text.{Text}
 use Rattle.format_csv_fields.specs.declared.looking.Text.TheVariants.{Plain, Quoted, Open}
 use Rattle.format_csv_fields.specs.declared.finding.Found.{Found}
 use Rattle.format_csv_fields.specs.declared.finding.Found.TheVariants.{Field, NeedsMore, Damaged, TooLong}
-use Rattle.format_csv_fields.specs.FieldAhead.{IsUnfinished, IsDamagedBefore, IsTooLong}
+use Rattle.format_csv_fields.specs.FieldAhead.{IsUnfinished, IsDamagedBefore}
 use Rattle.format_csv_fields.specs.Looking.{IsText, IsValue}
 use Rattle.format_csv_fields.specs.Finding.{FindsAfter, Finds}
 use Rattle.format_csv_fields.proofs.lemmas.AheadLemmas.{just-text, just-length, begins-just, unfinished, unclosed, broken, damaged-end, text-least, open-least}

@@ -1,17 +1,16 @@
 -- Lemmas on lending the value of a text.
-use Rattle.std.specs.Prelude.{Bool, true, false, drop, take, Option, Some, None}
-use Rattle.std.proofs.Common.{◌≡◌, ℕ, ◌+◌, ◌-◌, ◌≤◌, List, [], ◌∷◌, ◌++◌, length, refl, ap, sym, ◌∙◌, subst, arith, length-drop, length-append}
+use Rattle.std.specs.Prelude.{Bool, false, drop, take}
+use Rattle.std.proofs.Common.{◌≡◌, ℕ, ◌+◌, ◌-◌, ◌≤◌, List, ◌∷◌, ◌++◌, length, ap, sym, ◌∙◌, arith, length-drop, length-append}
 use Rattle.std.proofs.Math.Seq.{take-append_seam}
 use Rattle.std.proofs.lemmas.List.{drop-drop}
-use Rattle.format_lemmas.specs.Bytes.{StartsWith}
 use Rattle.format_lemmas.proofs.lemmas.ByteLemmas.{tails}
 use Rattle.format_csv.specs.Fields.{doubled}
 use Rattle.format_csv.specs.FillingFields.{ClosesQuoted}
 use Rattle.format_csv.proofs.lemmas.ByteLemmas.{closed-once, doubled-others}
 use Rattle.format_csv_fields.specs.declared.looking.Text.TheVariants.{Plain, Quoted}
-use Rattle.format_csv_fields.specs.declared.lending.Lent.TheVariants.{Kept, Value}
+use Rattle.format_csv_fields.specs.declared.lending.Lent.TheVariants.{Kept}
 use Rattle.format_csv_fields.specs.Looking.{IsText, IsQuoted}
-use Rattle.format_csv_fields.specs.Lending.{IsLent, Lends}
+use Rattle.format_csv_fields.specs.Lending.{Lends}
 
 -- the value of plain bytes is in the kept bytes
 pub lends-plain : (kept value : List ℕ) (at n : ℕ) → Lends (drop at kept) (Plain n) (Kept at (at + n)) kept value

@@ -1,14 +1,12 @@
 -- Lemmas on the fields that a reader has read.
-use Rattle.std.specs.Prelude.{Bool, true, false, not, min, take, drop, Some, Result, Ok, Err}
+use Rattle.std.specs.Prelude.{Bool, true, false, not, min, take, drop, Result, Ok, Err}
 use Rattle.std.proofs.Common.{◌≡◌, ◌≢◌, ℕ, ◌+◌, ◌-◌, ◌≤◌, ◌<◌, zero, suc, List, [], ◌∷◌, ◌++◌, length, refl, inl, inr, ap, sym, ◌∙◌, subst, arith, append_assoc, length-append, length-drop}
 use Rattle.std.proofs.lemmas.List.{drop-drop}
 use Rattle.winnow_reader.specs.Reading.{MayFollow}
-use Rattle.winnow_reader.specs.State.{ReaderState, taken_by, pushed, unspent, ended_after, fed_of, bytes_kept}
+use Rattle.winnow_reader.specs.State.{ReaderState, taken_by, pushed, unspent, ended_after, fed_of}
 use Rattle.winnow_reader.specs.Skips.{skipped}
 use Rattle.winnow_reader.specs.declared.next.Next.{Next}
 use Rattle.winnow_reader.specs.declared.next.Next.TheVariants as next
-use Rattle.format_csv.specs.Fields.{SpellsField}
-use Rattle.format_csv.specs.Language.{RecordAhead}
 use Rattle.format_csv.specs.declared.grammar.Row.{Row}
 use Rattle.format_csv.proofs.lemmas.TableLemmas.{records-more}
 use Rattle.format_csv_fields.specs.declared.after.Ending.{Ending}
@@ -17,7 +15,7 @@ use Rattle.format_csv_fields.specs.declared.looking.Text.{Text}
 use Rattle.format_csv_fields.specs.declared.finding.Found.TheVariants as found
 use Rattle.format_csv_fields.specs.declared.field_reader.FieldError.{FieldError}
 use Rattle.format_csv_fields.specs.declared.field_reader.FieldError.TheVariants as error
-use Rattle.format_csv_fields.specs.FieldAhead.{EndsField, FieldAhead, BeginsJust}
+use Rattle.format_csv_fields.specs.FieldAhead.{FieldAhead, BeginsJust}
 use Rattle.format_csv.proofs.lemmas.FillByteLemmas.{slice-from}
 use Rattle.format_csv_fields.specs.declared.looking.Looked.{Looked}
 use Rattle.format_csv_fields.specs.Looking.{IsValue, IsText, IsLooked, looked_at}

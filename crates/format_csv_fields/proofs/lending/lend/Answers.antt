@@ -1,6 +1,6 @@
 use Rattle.std.proofs.Common.{drop, ◌+◌}
 use Rattle.format_csv.proofs.lemmas.FillByteLemmas.{slice-from}
-use Rattle.format_csv_fields.proofs.lemmas.LendLemmas.{lends-plain, value-closes, quotes-within, lends-quoted}
+use Rattle.format_csv_fields.proofs.lemmas.LendLemmas.{value-closes, lends-quoted}
 use Rattle.format_csv_fields.proofs.lending.lend.Goals as goal
 
 pub returns-then-doubled-clause-value : goal.returns-then-doubled-clause-value

@@ -2,7 +2,7 @@ use Rattle.std.proofs.Common.{◌+◌, ◌++◌, drop, refl, ap, sym, ◌∙◌}
 use Rattle.format_csv.specs.Fields.{doubled}
 use Rattle.format_csv.proofs.lemmas.ByteLemmas.{closed-once, not-closed}
 use Rattle.format_csv.proofs.lemmas.FillByteLemmas.{slice-from}
-use Rattle.format_csv.proofs.lemmas.FillQuoteLemmas.{chunk-open, chunk-within, chunk-step, quote-within, quote-more}
+use Rattle.format_csv.proofs.lemmas.FillQuoteLemmas.{chunk-open, chunk-step, quote-within, quote-more}
 use Rattle.format_csv_fields.proofs.unescaping.unescape.Goals as goal
 
 pub returns-in_default : goal.returns-in_default

@@ -1,4 +1,4 @@
-use Rattle.format_csv_fields.proofs.lemmas.ReadLemmas.{read-piece, push-view, unspent-state}
+use Rattle.format_csv_fields.proofs.lemmas.ReadLemmas.{read-piece, push-view}
 use Rattle.format_csv_fields.proofs.field_reader.FieldReader.push.Goals as goal
 
 pub returns-clause-read : goal.returns-clause-read
