@@ -84,7 +84,8 @@ module _ (spells : List ℕ → List ReplyEvent → Type 0) where
 
 -- the bytes are a reply, and these are its events, where a relation says so of the replies in an
 -- array
-abbrev pub SpellsEither : ℕ → (List ℕ → List ReplyEvent → Type 0) → List ℕ → List ReplyEvent → Type 0
+abbrev pub SpellsEither : ℕ → (List ℕ → List ReplyEvent → Type 0) → List ℕ → List ReplyEvent
+    → Type 0
 SpellsEither longest spells bytes events =
     ((e : ReplyEvent) × (SpellsScalar longest e bytes × (events ≡ e ∷ [])))
     ⊎ SpellsArray spells bytes events

@@ -46,7 +46,8 @@ BreaksWithin depth f place cause = (f.place ≤ place) × (place ≤ fed_of f)
 -- the head that is ahead of the one reader, which the other has passed; or that its bytes are not
 -- there yet; or the end, with nothing left; or the reply breaks off, within each limit on depth, of
 -- which only 0 is one where `deep` says so; or memory was refused
-abbrev pub IsHead : Bool → ReaderState ReplyTo → Result Head EventError → ReaderState ReplyTo → Type 0
+abbrev pub IsHead : Bool → ReaderState ReplyTo → Result Head EventError → ReaderState ReplyTo
+    → Type 0
 IsHead deep old (Ok (head.Whole reply)) new =
     (bytes : List ℕ) × (Passes old bytes new × Spells old.parser.longest 0 reply bytes)
 IsHead deep old (Ok (head.Array count)) new = (deep ≡ false) × ((text : List ℕ)

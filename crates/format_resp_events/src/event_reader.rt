@@ -37,7 +37,7 @@ pub enum EventError {
 /// one piece, and a number for each array that is open.
 ///
 /// ```
-/// let mut reader = EventReader::new(alloc, LIMITS);
+/// let mut reader = EventReader::new(alloc, limits);
 /// ..
 /// push(&mut reader, &text[..cut])?;
 /// ..

@@ -1,7 +1,8 @@
 //! `Kept`: a reader of one of the formats, as a handle of C holds it.
 
 ghost use Rattle.std.specs.Prelude.{◌≡◌};
-ghost use Rattle.woldbraid_readers.specs.KeptCalls.{PushesKept, EndsKept, ReadsEvent, ReadsRow, ReadsReply};
+ghost use Rattle.woldbraid_readers.specs.KeptCalls.{PushesKept, EndsKept};
+ghost use Rattle.woldbraid_readers.specs.KeptCalls.{ReadsEvent, ReadsRow, ReadsReply};
 ghost use Rattle.woldbraid_readers.specs.KeptCalls.{fed_kept, held_kept, place_kept, level_kept};
 
 use crate::csv_reader::CsvReader;

@@ -113,7 +113,8 @@ module _ (ended : Bool) (v r s rest : List ℕ) (e : Ending) (field : BeginsFiel
 -- ---- More is needed
 
 -- if nothing or CR alone follows a field, no ending follows it
-not-ended : (e : Ending) (s after : List ℕ) → (s ≡ []) ⊎ (s ≡ 13 ∷ []) → ¬ (EndsField true e s after)
+not-ended : (e : Ending) (s after : List ℕ) → (s ≡ []) ⊎ (s ≡ 13 ∷ [])
+    → ¬ (EndsField true e s after)
 not-ended Comma s after (inl e) h = let x = sym e ∙ h in cc
 not-ended Comma s after (inr e) h = omega (arith, heads 13 44 [] after (sym e ∙ h))
 not-ended Record s after (inl e) (inl f) = let x = sym e ∙ f in cc

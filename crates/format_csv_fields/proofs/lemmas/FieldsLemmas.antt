@@ -31,7 +31,8 @@ fields-append bytes r x (w ∷ ws) (text, (more, (e, first, others))) =
 -- fields with commas and one more field spell a record, or the rest of one
 abbrev SpellsThen : List ℕ → List ℕ → List (List ℕ) → Type 0
 SpellsThen bytes m values =
-    (text : List ℕ) × ((bytes ≡ text ++ m) × (SpellsRecord values text × SpellsMore values (44 ∷ text)))
+    (text : List ℕ)
+    × ((bytes ≡ text ++ m) × (SpellsRecord values text × SpellsMore values (44 ∷ text)))
 
 -- fields with commas, and one more field, spell the record of all these fields
 then-field : (bytes r t m v : List ℕ) (fields : List (List ℕ)) → AreFields bytes fields r
@@ -55,7 +56,8 @@ fields-record bytes r t m v fields h same spells =
     let far = then-field bytes r t m v fields h same spells in (far.0, (far.1.0, far.1.1.0))
 
 -- bytes that begin with a field and a comma are not empty
-pub fields-some : (bytes r w : List ℕ) (ws : List (List ℕ)) → AreFields bytes (w ∷ ws) r → bytes ≢ []
+pub fields-some : (bytes r w : List ℕ) (ws : List (List ℕ)) → AreFields bytes (w ∷ ws) r
+    → bytes ≢ []
 fields-some bytes r w ws (text, (more, (e, first, others))) none = some text more 44 (sym e ∙ none)
 
 -- each record of the bytes begins with these fields, and the rest spells its other fields

@@ -18,7 +18,8 @@ at-most-one s (inr e) = omega (arith, ap length e)
 
 module _ (ended : Bool) (limit : ℕ) (bytes v : List ℕ) (text : Text) (n : ℕ) (l : n ≤ length bytes) (is : IsValue bytes text v) (field : BeginsField v bytes (drop n bytes)) where
   -- the result for the rest after a text is the result for the text
-  pub finds : (found : Found) → FindsAfter ended limit bytes n found → Finds ended limit bytes text found
+  pub finds : (found : Found) → FindsAfter ended limit bytes n found
+      → Finds ended limit bytes text found
   finds (Field e m) (short, after, within, ends) = (
     within,
     (
@@ -57,8 +58,8 @@ finds-plain ended limit bytes n found (l, each, ends, other) h =
     (inr (each, sym (take-append-drop n bytes), ends, other)) found h
 
 -- the text between quotes is the field with which the bytes begin
-pub finds-quoted : (ended : Bool) (limit : ℕ) (bytes : List ℕ) (n : ℕ) (doubles : Bool) (found : Found)
-    → IsText bytes (Quoted n doubles) → FindsAfter ended limit bytes (n + 1) found
+pub finds-quoted : (ended : Bool) (limit : ℕ) (bytes : List ℕ) (n : ℕ) (doubles : Bool)
+    (found : Found) → IsText bytes (Quoted n doubles) → FindsAfter ended limit bytes (n + 1) found
     → Finds ended limit bytes (Quoted n doubles) found
 finds-quoted ended limit bytes n doubles found (l, quote, (v, (is, quotes))) h =
     finds ended limit bytes v (Quoted n doubles) (n + 1) l is (inl is) found h
@@ -69,7 +70,8 @@ module _ (limit : ℕ) (bytes : List ℕ) (doubles : Bool) (h : IsText bytes (Op
   torn = (h.0, (h.1.0, (h.1.1.0, h.1.1.1)))
 
   -- it may be too long
-  pub open-long : (ended : Bool) → limit < length bytes → Finds ended limit bytes (Open doubles) TooLong
+  pub open-long : (ended : Bool) → limit < length bytes
+      → Finds ended limit bytes (Open doubles) TooLong
   open-long ended long =
       (long, λ more may t w e rest h. omega (arith, long, open-least bytes more t w rest e torn h))
 

@@ -30,8 +30,9 @@ none-follows true e = (refl, refl)
 none-follows false e = tt
 
 -- at the end the records are all records of the input
-pub rows-all : (f : FieldState) (input : List ℕ) (rows : List (List (List ℕ))) (fields : List (List ℕ))
-    → HasRead f input rows fields → IsThrough f.state → f.within ≡ false → AreRecords input rows []
+pub rows-all : (f : FieldState) (input : List ℕ) (rows : List (List (List ℕ)))
+    (fields : List (List ℕ)) → HasRead f input rows fields → IsThrough f.state → f.within ≡ false
+    → AreRecords input rows []
 rows-all f input rows fields h through outside =
     let none = none-within f.within fields h.within outside in
     let a = subst (λ fs. AreRead (input ++ []) rows fs (f.state.ahead ++ [])) none (h.reads [] (none-follows f.state.ended through.0)) in

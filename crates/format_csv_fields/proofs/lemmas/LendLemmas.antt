@@ -13,7 +13,8 @@ use Rattle.format_csv_fields.specs.Looking.{IsText, IsQuoted}
 use Rattle.format_csv_fields.specs.Lending.{Lends}
 
 -- the value of plain bytes is in the kept bytes
-pub lends-plain : (kept value : List ℕ) (at n : ℕ) → Lends (drop at kept) (Plain n) (Kept at (at + n)) kept value
+pub lends-plain : (kept value : List ℕ) (at n : ℕ)
+    → Lends (drop at kept) (Plain n) (Kept at (at + n)) kept value
 lends-plain kept value at n = λ field is. ap (λ k. take k (drop at kept)) (omega arith) ∙ is
 
 -- the first bytes of a value with further bytes, as many as the value has, are the value

@@ -72,7 +72,8 @@ module _ (bytes value rest : List ℕ) (at : ℕ) (doubles : Bool) (er : rest �
     chunk-quotes e = each-both is_other value (take n rest) (quotes e) (before-quote rest n first)
 
     -- if no quote follows the quote, it closes the field
-    pub text-quoted : ¬ (StartsWith 34 (drop (at + n + 1) bytes)) → IsText bytes (Quoted (at + n) doubles)
+    pub text-quoted : ¬ (StartsWith 34 (drop (at + n + 1) bytes))
+        → IsText bytes (Quoted (at + n) doubles)
     text-quoted other =
         (chunk-within, chunk-quote, (value ++ take n rest, ((chunk-end, other), chunk-quotes)))
 
@@ -122,7 +123,8 @@ text-looked bytes (Open doubles) (value, (chunk, (e, others, quotes))) = (
 )
 
 -- bytes that are looked at to some place are so with a piece after them
-pub looked-more : (bytes piece : List ℕ) (l : Looked) → IsLooked bytes l → IsLooked (bytes ++ piece) l
+pub looked-more : (bytes piece : List ℕ) (l : Looked) → IsLooked bytes l
+    → IsLooked (bytes ++ piece) l
 looked-more bytes piece (looked.Plain n) (l, each) = (
   omega (arith, l, length-append bytes piece),
   subst (Each is_plain) (sym (take-append-le n bytes piece l)) each,

@@ -77,7 +77,8 @@ module _ (old new : FieldState) (e : Ending) (t : TakesField old e new) (input :
       ap (λ (f : ReaderState Row). fed_of f) t.state ∙ omega (arith, t.bound, length-drop t.n old.state.ahead, h.fed)
 
   -- a continuation that may follow the new reader
-  may-old : (more : List ℕ) → MayFollow new.state.ended more false → MayFollow old.state.ended more false
+  may-old : (more : List ℕ) → MayFollow new.state.ended more false
+      → MayFollow old.state.ended more false
   may-old more may = subst (λ b. MayFollow b more false) same-ended may
 
   -- the field ahead of a continuation
@@ -193,8 +194,8 @@ module _ (f g h : ReaderState Row) (n k : ℕ) (l : n ≤ length f.ahead) (e : k
       ap (λ x. taken_by x 0) (p ∙ ap (λ x. unspent x) skip-takes) ∙ taken-none (unspent (taken_by f n)) refl
 
 -- a reader of fields after its inner reader notes the end
-pub end-view : (old : FieldState) (f g : ReaderState Row) (at limit : ℕ) (within : Bool) (lent : Lent)
-    (value : List ℕ)
+pub end-view : (old : FieldState) (f g : ReaderState Row) (at limit : ℕ) (within : Bool)
+    (lent : Lent) (value : List ℕ)
     → record { state = taken_by f at; within = within; field = lent_bytes lent f.ahead value; limit = limit } ≡ old
     → g ≡ ended_after f
     → record { state = taken_by g at; within = within; field = lent_bytes lent g.ahead value; limit = limit } ≡ fields_ended old
@@ -273,8 +274,8 @@ takes-lent old new e t = record {
 }
 
 -- a field that is found in the bytes ahead and lent of the kept bytes is taken
-pub takes-kept : (old : FieldState) (f : ReaderState Row) (at limit : ℕ) (within w : Bool) (field : List ℕ)
-    → record { state = taken_by f at; within = within; field = field; limit = limit } ≡ old
+pub takes-kept : (old : FieldState) (f : ReaderState Row) (at limit : ℕ) (within w : Bool)
+    (field : List ℕ) → record { state = taken_by f at; within = within; field = field; limit = limit } ≡ old
     → (kept value : List ℕ) (lent : Lent) → kept ≡ f.ahead → (text : Text) (e : Ending) (n : ℕ)
     → Finds old.state.ended old.limit old.state.ahead text (found.Field e n)
     → Lends (drop at kept) text lent kept value
@@ -290,7 +291,8 @@ takes-kept old f at limit within w field view kept value lent same text e n find
     finds some
 
 -- what is found in the bytes of a reader is found in its state
-pub finds-view : (f : FieldState) (ended : Bool) (limit : ℕ) (bytes : List ℕ) → ended ≡ f.state.ended
+pub finds-view : (f : FieldState) (ended : Bool) (limit : ℕ) (bytes : List ℕ)
+    → ended ≡ f.state.ended
     → limit ≡ f.limit → bytes ≡ f.state.ahead → (text : Text) (found : Found)
     → Finds ended limit bytes text found → Finds f.state.ended f.limit f.state.ahead text found
 finds-view f ended limit bytes a b c text found h =

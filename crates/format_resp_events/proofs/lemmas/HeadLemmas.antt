@@ -181,7 +181,8 @@ cause-here told k width bytes ahead same e h =
 -- ---- Damage that is the same at each depth
 
 -- what is wrong at a rest is not the depth
-never-deep : (rest : Source ℕ) (cause : Cause) → ¬ (TooDeep ≡ cause) → ¬ (TooDeep ≡ cause_at rest cause)
+never-deep : (rest : Source ℕ) (cause : Cause) → ¬ (TooDeep ≡ cause)
+    → ¬ (TooDeep ≡ cause_at rest cause)
 never-deep [] cause other e = cc e
 never-deep (x ∷ rest) cause other e = other e
 
@@ -209,7 +210,7 @@ deeper longest zero cause whole rest other (inr h) = inr h
 deeper longest (suc depth) cause whole rest other (inr (kind, (after, (is, stands, body)))) =
     inr (kind, (after, (is, stands, body-deeper longest depth kind cause after rest other body)))
 
--- so does what a reader has ahead, whatever follows
+-- what a reader has ahead and breaks off within no array breaks off within any, if not by depth
 pub breaks-deeper : (f : ReaderState ReplyTo) (place depth : ℕ) (cause : Cause)
     → ¬ (cause ≡ TooDeep) → BreaksWithin 0 f place cause → BreaksWithin depth f place cause
 breaks-deeper f place depth cause other (before, within, h) = (
@@ -262,7 +263,7 @@ deep-begins longest bytes rest (inl (same, none, cause)) =
 deep-begins longest bytes rest (inr (kind, (after, (is, stands, body)))) =
     deep-line longest bytes after rest kind stands body
 
--- so is what a reader has ahead
+-- an array begins ahead of a reader if what is ahead is too deep within no array
 pub breaks-begins : (f : ReaderState ReplyTo) (place : ℕ) → BreaksWithin 0 f place TooDeep
     → BeginsArray f.ahead
 breaks-begins f place (before, within, h) =

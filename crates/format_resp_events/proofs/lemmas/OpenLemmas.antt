@@ -33,7 +33,7 @@ due-last xs some = elim (last-cases (reverse xs) xs refl) [
       ∙ ap (λ n. get_or (front ++ y ∷ []) n 0) (last-place front y) ∙ get_or-append_seam front y [] 0))
 ]
 
--- and if there is none
+-- a reply is due if no array is open
 pub due-none : (xs : List ℕ) → length xs ≡ 0 → is_due (reverse xs) ≡ true
 due-none [] e = refl
 due-none (x ∷ xs) e = absurd (cc e)

@@ -106,7 +106,8 @@ integer-once : (text : List ℕ) (n m : ℤ) → IsInteger text n → IsInteger 
 integer-once text n m (small, is) (low, e) = signed_decimal_injective n m (omega (arith, small)) (omega (arith, low)) (sym is ∙ e)
 
 -- a bulk string is the bytes that its length says
-bulk-once : (v w : List ℕ) (text s t q r : List ℕ) → IsCount (length v) text → IsCount (length w) text
+bulk-once : (v w : List ℕ) (text s t q r : List ℕ) → IsCount (length v) text
+    → IsCount (length w) text
     → s ≡ line v → t ≡ line w → s ++ q ≡ t ++ r → (v ≡ w) × (q ≡ r)
 bulk-once v w text s t q r (small, is) (low, too) a b e =
     let n = decimal_injective (length v) (length w) small low (sym is ∙ too) in
@@ -224,7 +225,8 @@ IsOnce spells = (s t q r : List ℕ) (es fs : List ReplyEvent) → spells s es �
 
 module _ (spells : List ℕ → List ReplyEvent → Type 0) (one : IsOnce spells) where
   -- so have rows of as many replies
-  row-once : (n m : ℕ) → n ≡ m → (s t q r : List ℕ) (es fs : List ReplyEvent) → SpellsRow spells n s es
+  row-once : (n m : ℕ) → n ≡ m → (s t q r : List ℕ) (es fs : List ReplyEvent)
+      → SpellsRow spells n s es
       → SpellsRow spells m t fs → s ++ q ≡ t ++ r → AreAlike SameEvent es fs × (q ≡ r)
   row-once zero zero k s t q r es fs (a, e) (b, f) same =
       (subst (AreAlike SameEvent es) (sym f) (subst (λ l. AreAlike SameEvent l []) (sym e) tt), rests s t q r a b same)

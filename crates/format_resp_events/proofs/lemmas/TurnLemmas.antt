@@ -104,8 +104,8 @@ gives-passed old replies lacks one e p on input before h = record {
 }
 
 -- a whole reply was taken
-pub gives-whole : (old : EventState) (replies : ReaderState ReplyTo) (lacks one : List ℕ) (y : Reply)
-    → IsDue old.open_arrays → Passes old.replies one replies
+pub gives-whole : (old : EventState) (replies : ReaderState ReplyTo) (lacks one : List ℕ)
+    (y : Reply) → IsDue old.open_arrays → Passes old.replies one replies
     → Spells old.replies.parser.longest 0 y one → lacks ≡ after_head (out-Reply y) old.open_arrays
     → GivesOn old (first_event (out-Reply y) ∷ []) (reader_at old replies lacks)
 gives-whole old replies lacks one y due p spells same =

@@ -24,12 +24,14 @@ scalar-written longest event.NullBulk bytes h = h
 scalar-written longest event.NullArray bytes h = h
 
 -- the events of two lists in a row stand for the bytes of both
-written-both : (xs ys : List ReplyEvent) → events_written (xs ++ ys) ≡ events_written xs ++ events_written ys
+written-both : (xs ys : List ReplyEvent)
+    → events_written (xs ++ ys) ≡ events_written xs ++ events_written ys
 written-both xs ys = flat_map-append event_written xs ys
 
 module _ (spells : List ℕ → List ReplyEvent → Type 0) (one : (bytes : List ℕ) (events : List ReplyEvent) → spells bytes events → bytes ≡ events_written events) where
-  -- so do the events of replies in a row
-  row-written : (n : ℕ) (bytes : List ℕ) (events : List ReplyEvent) → SpellsRow spells n bytes events
+  -- the events of replies in a row stand for the bytes of these replies
+  row-written : (n : ℕ) (bytes : List ℕ) (events : List ReplyEvent)
+      → SpellsRow spells n bytes events
       → bytes ≡ events_written events
   row-written zero bytes events (b, e) = b ∙ sym (ap events_written e)
   row-written (suc n) bytes events (head, (more, (first, (others, (b, e, s, row))))) =
@@ -56,7 +58,7 @@ reply-written longest zero bytes events h =
 reply-written longest (suc depth) bytes events h =
     either-written (SpellsEvents longest depth) (reply-written longest depth) longest bytes events h
 
--- so is one in an array
+-- the events of a reply in an array stand for the bytes of the reply
 inside-written : (longest depth : ℕ) (bytes : List ℕ) (events : List ReplyEvent)
     → SpellsInside longest depth bytes events → bytes ≡ events_written events
 inside-written longest zero bytes events h = absurd h
