@@ -275,7 +275,8 @@ takes-lent old new e t = record {
 
 -- a field that is found in the bytes ahead and lent of the kept bytes is taken
 pub takes-kept : (old : FieldState) (f : ReaderState Row) (at limit : ℕ) (within w : Bool)
-    (field : List ℕ) → record { state = taken_by f at; within = within; field = field; limit = limit } ≡ old
+    (field : List ℕ)
+    → record { state = taken_by f at; within = within; field = field; limit = limit } ≡ old
     → (kept value : List ℕ) (lent : Lent) → kept ≡ f.ahead → (text : Text) (e : Ending) (n : ℕ)
     → Finds old.state.ended old.limit old.state.ahead text (found.Field e n)
     → Lends (drop at kept) text lent kept value
