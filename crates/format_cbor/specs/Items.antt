@@ -1,5 +1,5 @@
 -- Data items over those inside them (RFC 8949, section 3.1).
-use Rattle.std.specs.Prelude.{◌≡◌, ℕ, List, length, box_value}
+use Rattle.std.specs.Prelude.{◌≡◌, ℕ, zero, suc, List, length, box_value}
 use Rattle.winnow_codec.specs.Formats.{Spelling}
 use Rattle.winnow_codec.specs.Cases.{SpellsTagged}
 use Rattle.winnow_codec.specs.FormatRows.{SpellsPair, AreBothSame}
@@ -58,3 +58,8 @@ AreSameInner same x y = ⊥
 -- the items are of one kind, and what they hold is the same
 abbrev pub AreSameItem : (Item → Item → Type 0) → Item → Item → Type 0
 AreSameItem same v w = AreSameInner same (out-Item v) (out-Item w)
+
+-- which bytes spell an item that stands within at most `depth` arrays, maps and tags
+abbrev pub SpellsItem : ℕ → ℕ → Spelling Item
+SpellsItem longest zero = SpellsLayer longest SpellsNoItem
+SpellsItem longest (suc depth) = SpellsLayer longest (SpellsItem longest depth)

@@ -179,3 +179,10 @@ impl<F: Format<Value = Item>> Cases<HeadFormat> for ItemAfter<F> {
         }
     }
 }
+
+// Returns what follows the head of an item.
+pub(crate) fn after<F>(longest: usize, inner: F) -> ItemAfter<F>
+    ensures { result ≡ record { longest = longest; inner = inner } }
+{
+    ItemAfter { longest, inner }
+}

@@ -21,6 +21,7 @@ mod head;
 mod head_format;
 mod item;
 mod item_format;
+mod nested;
 mod scalar;
 mod scalar_format;
 
@@ -30,5 +31,6 @@ pub use head::{Head, Kind};
 pub use head_format::{ArgumentAfter, HeadFormat, heads};
 pub use item::Item;
 pub use item_format::{ItemAfter, Layer, NoItem, layer};
+pub use nested::read_nested;
 pub use scalar::Scalar;
 pub use scalar_format::{ScalarAfter, ScalarFormat, scalars};
