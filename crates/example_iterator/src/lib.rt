@@ -10,8 +10,8 @@ use winnow_parser::{Failure, ModalResult};
 
 type Error = EmptyError;
 
-/// Reads names and values, as in `name:value,name:value,`, and returns them with what follows the
-/// last of them. A name or value without its comma is left.
+/// Reads pairs of a name and a value, each ended by a comma, as `name:value,name:value,`, and
+/// returns them with the remaining input. A pair that no comma ends remains.
 pub fn read_pairs<'a>(
     alloc: Global,
     input: &'a str,

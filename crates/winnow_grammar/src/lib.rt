@@ -33,8 +33,6 @@
 #![tactic(auto, using(winnow_parser::proofs::lemmas::OnwardLemmas::onward_steps))]
 
 mod asking;
-mod asking_as;
-mod asking_text;
 mod by_ref;
 mod choices;
 mod choices_to_ten;
@@ -51,20 +49,18 @@ mod spells;
 mod texts;
 mod tokens;
 
-pub use asking::ask;
-pub use asking_as::ask_as;
-pub use asking_text::{ask_bytes, ask_text};
+pub use asking::{ask, ask_as, ask_bytes, ask_text};
 pub use errors::{Plain, PlainError, PlainFromExternal};
-pub use functions::{nested, part};
-pub use parsers::by_rule::{ByRule, Rule, by_rule};
-pub use parsers::from_fn::{FromFn, from_fn};
-pub use parsers::map_in::{MapIn, TryMapIn, map_in, try_map_in};
-pub use parsers::nested::{Layer, Nested};
-pub use parsers::nested_as::{LayerAs, NestedAs, nested_as};
-pub use parsers::part::{Part, Reads};
-pub use parsers::part_as::{PartAs, ReadsAs, part_as};
-pub use records::{
-    PlainRecord, PlainTextRecord, ReadsRecord, ReadsTextRecord, record, text_record,
+pub use functions::{
+    by_rule, from_fn, map_in, nested, nested_as, part, part_as, record, text_record, try_map_in,
 };
+pub use parsers::by_rule::{ByRule, Rule};
+pub use parsers::from_fn::FromFn;
+pub use parsers::map_in::{MapIn, TryMapIn};
+pub use parsers::nested::{Layer, Nested};
+pub use parsers::nested_as::{LayerAs, NestedAs};
+pub use parsers::part::{Part, Reads};
+pub use parsers::part_as::{PartAs, ReadsAs};
+pub use records::{PlainRecord, PlainTextRecord, ReadsRecord, ReadsTextRecord};
 pub use spells::Spells;
 pub use texts::{AsText, Chars, Octets, Text};

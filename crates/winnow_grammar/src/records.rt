@@ -1,6 +1,5 @@
 //! Records of a grammar of one's own: `ReadsRecord` and `ReadsTextRecord`, for readers over pieces.
 
-ghost use Rattle.std.specs.Prelude.{◌≡◌};
 ghost use Rattle.winnow_parser.specs.Errors.{AnyError};
 ghost use Rattle.winnow_parser.specs.Answer.{outcome};
 ghost use Rattle.winnow_wrap.specs.Flag.{flag};
@@ -53,31 +52,13 @@ pub trait ReadsTextRecord {
 /// The record of bytes of a grammar; [`record`] makes it.
 #[derive(Clone, Copy, Drop)]
 pub struct PlainRecord<R> {
-    reads: R,
+    pub(crate) reads: R,
 }
 
 /// The record of text of a grammar; [`text_record`] makes it.
 #[derive(Clone, Copy, Drop)]
 pub struct PlainTextRecord<R> {
-    reads: R,
-}
-
-/// Returns the record of bytes of a grammar, for a `ByteReader`.
-pub fn record<R>(reads: R) -> PlainRecord<R>
-    ensures { result.reads ≡ reads }
-{
-    PlainRecord { reads }
-}
-
-/// Returns the record of text of a grammar, for a `TextReader`:
-///
-/// ```
-/// let mut reader = TextReader::new(alloc, Utf8Record::new(text_record(Line)));
-/// ```
-pub fn text_record<R>(reads: R) -> PlainTextRecord<R>
-    ensures { result.reads ≡ reads }
-{
-    PlainTextRecord { reads }
+    pub(crate) reads: R,
 }
 
 impl<R: ReadsRecord> Record for PlainRecord<R> {

@@ -7,7 +7,8 @@ use Rattle.winnow_parser.specs.Outcome.{Ahead, Gives, Fails, Meaning}
 use Rattle.winnow_parser.specs.Answer.{failed}
 use Rattle.winnow_parser.specs.Errors.{Errors}
 
--- the failure is one of the parser, with an error that it may carry, and the stream is left so
+-- the failure is one of the parser, with an error that it may carry, and `left` is the stream that
+-- the parser leaves
 abbrev pub FailsAs : {S E O T : Type 0} → (S → Ahead T) → Meaning O T → Errors E S T → Bool
     → Ahead T → S → Failure E Needed → Type 0
 FailsAs stands means errors partial a left failure = errors partial a left failure × means partial a (Fails (failed failure (stands left)))

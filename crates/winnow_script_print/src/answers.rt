@@ -1,4 +1,5 @@
-//! The lines of answers: `push_answer`, `push_answers`, and `push_numbered` over pieces.
+//! The lines that the program prints for answers: `push_answer`, `push_answers`, and
+//! `push_numbered`, which names the piece that made an answer definite.
 
 ghost use Rattle.std.specs.Prelude.{◌≡◌, ◌++◌, codes, string_bytes, OnOk};
 ghost use Rattle.winnow_script_print.specs.AnswerLines.{at_words, compared_words, hit_words};

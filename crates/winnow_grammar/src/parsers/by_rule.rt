@@ -1,6 +1,5 @@
 //! `Rule`, the meaning of a function that parses, and `by_rule`, which makes a parser of both.
 
-ghost use Rattle.std.specs.Prelude.{◌≡◌};
 ghost use Rattle.winnow_parser.specs.Outcome.{Meaning};
 ghost use Rattle.winnow_parser.specs.Answer.{ahead};
 ghost use Rattle.winnow_parser.specs.Errors.{ContractErrors};
@@ -30,16 +29,8 @@ pub trait Rule<I: StreamIsPartial> {
 /// A function that reads what a rule says; [`by_rule`] makes it.
 #[derive(Clone, Copy, Drop)]
 pub struct ByRule<R, F> {
-    rule: R,
-    read: F,
-}
-
-/// Returns the function as a parser that means what the rule says. The function's own contract has
-/// to say so too.
-pub fn by_rule<R, F>(rule: R, read: F) -> ByRule<R, F>
-    ensures { result ≡ record { rule = rule; read = read } }
-{
-    ByRule { rule, read }
+    pub(crate) rule: R,
+    pub(crate) read: F,
 }
 
 impl<I: StreamIsPartial, E, R: Rule<I>, F: Fn(Global, &mut I) -> ModalResult<R::Output, E>> Parser<

@@ -1,6 +1,5 @@
 //! `from_fn`, which makes a parser of a function.
 
-ghost use Rattle.std.specs.Prelude.{◌≡◌};
 ghost use Rattle.winnow_parser.specs.Answer.{ahead};
 ghost use Rattle.winnow_parser.specs.Errors.{ContractErrors};
 ghost use Rattle.winnow_parser.specs.Following.{Follows};
@@ -13,19 +12,7 @@ use winnow_stream::StreamIsPartial;
 /// A function as a parser; [`from_fn`] makes it.
 #[derive(Clone, Copy, Drop)]
 pub struct FromFn<F> {
-    read: F,
-}
-
-/// Returns the function as a parser. The function's contract says that its result is one that a
-/// parser may return, and that the stream only advanced, as that of [`ask`](crate::ask) does: over
-/// a text in one clause, `ReadsText`, and over bytes in `ReadsBytes`. Its failures carry the errors
-/// that its contract allows.
-pub fn from_fn<I: StreamIsPartial, O, E, F: Fn(Global, &mut I) -> ModalResult<O, E>>(
-    read: F,
-) -> FromFn<F>
-    ensures { result ≡ record { read = read } }
-{
-    FromFn { read }
+    pub(crate) read: F,
 }
 
 impl<I: StreamIsPartial, E, O, F: Fn(Global, &mut I) -> ModalResult<O, E>> Parser<I, E>

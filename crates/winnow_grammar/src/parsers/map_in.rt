@@ -1,7 +1,6 @@
 //! `map_in` and `try_map_in`: `map` of a function that takes memory, and `try_map` of one whose
 //! error prints.
 
-ghost use Rattle.std.specs.Prelude.{◌≡◌};
 ghost use Rattle.winnow_parser.specs.Errors.{AnyError};
 ghost use Rattle.winnow_grammar.specs.AnyAnswer.{AnyAnswer, IsParser-AnyAnswer};
 
@@ -15,21 +14,8 @@ use winnow_stream::StreamIsPartial;
 /// A parser of what a function makes of a value in memory; [`map_in`] makes it.
 #[derive(Clone, Copy, Drop)]
 pub struct MapIn<P, F> {
-    inner: P,
-    f: F,
-}
-
-/// Returns the parser of what a function makes of the value, as `map` does, for a function that
-/// takes memory. If memory is refused, the parser answers `Failure::Refused`.
-///
-/// ```
-/// let owned = |alloc: Global, letters: I::Piece| String::from_str(alloc, letters.as_text());
-/// let name = map_in(alpha1(), owned);
-/// ```
-pub fn map_in<P, F>(inner: P, f: F) -> MapIn<P, F>
-    ensures { result ≡ record { inner = inner; f = f } }
-{
-    MapIn { inner, f }
+    pub(crate) inner: P,
+    pub(crate) f: F,
 }
 
 impl<
@@ -63,22 +49,8 @@ impl<
 /// A parser of what a function that may fail makes of a value; [`try_map_in`] makes it.
 #[derive(Clone, Copy, Drop)]
 pub struct TryMapIn<P, F> {
-    inner: P,
-    f: F,
-}
-
-/// Returns the parser of what a function makes of the value, as `try_map` does, for a function
-/// whose error is any type that prints. An error of the function is a backtrack whose cause is the
-/// text that it prints, which `ContextError` and `TreeError` keep. That text takes memory: if it is
-/// refused, the parser answers `Failure::Refused`.
-///
-/// ```
-/// let port = try_map_in(digit1(), |digits: I::Piece| digits.as_text().parse::<u16>());
-/// ```
-pub fn try_map_in<P, F>(inner: P, f: F) -> TryMapIn<P, F>
-    ensures { result ≡ record { inner = inner; f = f } }
-{
-    TryMapIn { inner, f }
+    pub(crate) inner: P,
+    pub(crate) f: F,
 }
 
 impl<

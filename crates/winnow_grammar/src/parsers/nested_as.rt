@@ -1,6 +1,6 @@
 //! Grammars that contain themselves and have a spelling: `LayerAs` and `nested_as`.
 
-ghost use Rattle.std.specs.Prelude.{◌≡◌, ◌-◌, ◌<◌};
+ghost use Rattle.std.specs.Prelude.{◌-◌, ◌<◌};
 ghost use Rattle.winnow_parser.specs.Answer.{ahead, outcome};
 ghost use Rattle.winnow_parser.specs.Errors.{AnyError};
 ghost use Rattle.winnow_parser.specs.Following.{Follows};
@@ -49,16 +49,8 @@ pub trait LayerAs<I: StreamIsPartial, E> {
 /// A grammar that contains itself, to a depth; [`nested_as`] makes it.
 #[derive(Clone, Copy, Drop)]
 pub struct NestedAs<L> {
-    layer: L,
-    depth: usize,
-}
-
-/// Returns the parser of a grammar that contains itself, of at most this many layers. It cuts where
-/// the input goes deeper, so that no input uses up the stack.
-pub fn nested_as<L>(layer: L, depth: usize) -> NestedAs<L>
-    ensures { result ≡ record { layer = layer; depth = depth } }
-{
-    NestedAs { layer, depth }
+    pub(crate) layer: L,
+    pub(crate) depth: usize,
 }
 
 // What lies inside a layer.

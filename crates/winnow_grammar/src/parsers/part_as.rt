@@ -1,6 +1,5 @@
 //! Named parts that have a spelling: `ReadsAs` and `part_as`.
 
-ghost use Rattle.std.specs.Prelude.{◌≡◌};
 ghost use Rattle.winnow_parser.specs.Outcome.{Moves};
 ghost use Rattle.winnow_parser.specs.Answer.{ahead, outcome};
 ghost use Rattle.winnow_parser.specs.Errors.{AnyError};
@@ -39,14 +38,7 @@ pub trait ReadsAs<I: StreamIsPartial, E> {
 /// The parser of a part of a grammar; [`part_as`] makes it.
 #[derive(Clone, Copy, Drop)]
 pub struct PartAs<R> {
-    reads: R,
-}
-
-/// Returns the parser of a part of a grammar.
-pub fn part_as<R>(reads: R) -> PartAs<R>
-    ensures { result.reads ≡ reads }
-{
-    PartAs { reads }
+    pub(crate) reads: R,
 }
 
 impl<I: StreamIsPartial, E, R: ReadsAs<I, E>> Parser<I, E> for PartAs<R> {

@@ -1,6 +1,6 @@
 use Rattle.std.specs.Prelude.{false, None}
 use Rattle.winnow_grammar.specs.Texts.{SpelledBytes-of}
-use Rattle.winnow_grammar.proofs.asking_text.ask_bytes.Goals as goal
+use Rattle.winnow_grammar.proofs.asking.ask_bytes.Goals as goal
 
 pub returns : goal.returns
 returns g c =

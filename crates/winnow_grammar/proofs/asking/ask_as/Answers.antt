@@ -1,5 +1,5 @@
 use Rattle.winnow_grammar.specs.Spelt.{Spelt-of}
-use Rattle.winnow_grammar.proofs.asking_as.ask_as.Goals as goal
+use Rattle.winnow_grammar.proofs.asking.ask_as.Goals as goal
 
 pub returns-clause-answer : goal.returns-clause-answer
 returns-clause-answer g c =
