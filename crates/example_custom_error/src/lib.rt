@@ -6,7 +6,7 @@ use std::alloc::Global;
 use std::num::ParseIntError;
 use winnow_ascii::digit1;
 use winnow_combinator::alt;
-use winnow_grammar::{Plain, PlainError, PlainFromExternal};
+use winnow_error::{Plain, PlainError, PlainFromExternal};
 use winnow_parser::{ModalResult, Parser};
 use winnow_token::one_of;
 

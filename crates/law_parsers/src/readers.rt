@@ -5,7 +5,7 @@ use crate::lines::{Nothing, NumberLine, number_line, word_line};
 use crate::text_lines::{TextLine, text_line};
 use std::alloc::Global;
 use std::test::Fail;
-use winnow_limit::{
+use winnow_reader_limit::{
     Limited, LimitedError, determined_limit_law, limit_law, limited, scan_limit_law, with_limit,
 };
 use winnow_reader::{

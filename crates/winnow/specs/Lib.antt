@@ -141,10 +141,10 @@ pub use Rattle.winnow_codec.specs.RoundTrips
 pub use Rattle.winnow_codec.specs.Signed
 pub use Rattle.winnow_codec.specs.WholeFormats
 pub use Rattle.winnow_codec.specs.Writing
-pub use Rattle.winnow_limit.specs.Bound
-pub use Rattle.winnow_limit.specs.Limit
-pub use Rattle.winnow_limit.specs.LimitTelling
-pub use Rattle.winnow_limit.specs.Scanned
-pub use Rattle.winnow_limit.specs.Why
-pub use Rattle.winnow_limit.specs.Within
-pub use Rattle.winnow_limit.specs.WithinLaws
+pub use Rattle.winnow_reader_limit.specs.Bound
+pub use Rattle.winnow_reader_limit.specs.Limit
+pub use Rattle.winnow_reader_limit.specs.LimitTelling
+pub use Rattle.winnow_reader_limit.specs.Scanned
+pub use Rattle.winnow_reader_limit.specs.Why
+pub use Rattle.winnow_reader_limit.specs.Within
+pub use Rattle.winnow_reader_limit.specs.WithinLaws

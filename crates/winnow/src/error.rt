@@ -7,7 +7,8 @@
 pub use winnow_base::error::{
     AddContext, AssociativeOr, ContextError, ContextItems, EmptyError, ErrMode, ErrorConvert,
     FromExternalError, FromRecoverableError, InputError, ModalError, Needed, OrTree, ParseError,
-    ParserError, Result, StrContext, StrContextValue, TreeError, TreeErrorBase, TreeErrorContext,
-    TreeErrorFrame, combine, combine_trees, join_all, laws, translate_position,
+    ParserError, Plain, PlainError, PlainFromExternal, Result, StrContext, StrContextValue,
+    TreeError, TreeErrorBase, TreeErrorContext, TreeErrorFrame, combine, combine_trees, join_all,
+    laws, translate_position,
 };
 pub use winnow_parser::{Failure, ModalResult, WholeResult};

@@ -29,7 +29,6 @@ pub use winnow_codec as codec;
 pub use winnow_exact as exact;
 pub use winnow_grammar as grammar;
 pub use winnow_grammar::{ByRule, Rule, by_rule};
-pub use winnow_limit as limit;
 pub use winnow_liveness as liveness;
 pub use winnow_parser::{
     AndThen, ByBorrow, ByValue, Context, ContextWith, DefaultValue, ErrInto, Failure, FlatMap, Map,
@@ -37,5 +36,6 @@ pub use winnow_parser::{
     Verify, VerifyMap, Void, WholeResult, WithSpan, WithTaken,
 };
 pub use winnow_reader as reader;
+pub use winnow_reader_limit as limit;
 pub use winnow_scan as scan;
 pub use winnow_spans as spans;

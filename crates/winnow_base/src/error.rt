@@ -4,8 +4,8 @@ pub mod laws;
 
 pub use winnow_error::{
     AddContext, AssociativeOr, EmptyError, ErrMode, ErrorConvert, FromExternalError,
-    FromRecoverableError, InputError, ModalError, ModalResult, OrTree, ParserError, Result,
-    combine, join_all,
+    FromRecoverableError, InputError, ModalError, ModalResult, OrTree, ParserError, Plain,
+    PlainError, PlainFromExternal, Result, combine, join_all,
 };
 pub use winnow_error_context::{ContextError, ContextItems, StrContext, StrContextValue};
 pub use winnow_error_parse::{ParseError, translate_position};

@@ -17,6 +17,7 @@ mod laws;
 mod modal_error;
 mod mode;
 mod parser_error;
+mod plain;
 mod result;
 mod unit;
 
@@ -35,5 +36,6 @@ pub use laws::{bracket_law, mode_law, or_law};
 pub use modal_error::ModalError;
 pub use mode::ErrMode;
 pub use parser_error::ParserError;
+pub use plain::{Plain, PlainError, PlainFromExternal};
 pub use result::{ModalResult, Result};
 pub use winnow_stream::Needed;

@@ -36,7 +36,6 @@ mod asking;
 mod by_ref;
 mod choices;
 mod choices_to_ten;
-mod errors;
 mod functions;
 mod made;
 mod parsers;
@@ -50,7 +49,6 @@ mod texts;
 mod tokens;
 
 pub use asking::{ask, ask_as, ask_bytes, ask_text};
-pub use errors::{Plain, PlainError, PlainFromExternal};
 pub use functions::{
     by_rule, from_fn, map_in, nested, nested_as, part, part_as, record, text_record, try_map_in,
 };
@@ -64,3 +62,4 @@ pub use parsers::part_as::{PartAs, ReadsAs};
 pub use records::{PlainRecord, PlainTextRecord, ReadsRecord, ReadsTextRecord};
 pub use spells::Spells;
 pub use texts::{AsText, Chars, Octets, Text};
+pub use winnow_error::{Plain, PlainError, PlainFromExternal};
