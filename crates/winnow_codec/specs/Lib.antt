@@ -17,5 +17,6 @@ pub mod Nibbles
 pub mod Orders
 pub mod RoundTrips
 pub mod Signed
+pub mod Verified
 pub mod WholeFormats
 pub mod Writing
