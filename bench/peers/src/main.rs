@@ -60,6 +60,7 @@ impl Format {
     }
 }
 
+// The ways to read the files.
 fn formats(folder: &Path) -> Vec<Format> {
     let file = |name| fs::read(folder.join(name)).expect("the folder has a file for each format");
     vec![
@@ -71,6 +72,8 @@ fn formats(folder: &Path) -> Vec<Format> {
                 ("ours, in pieces of 64 KB", ours::csv_in_pieces),
                 ("ours, a record filled again", ours::csv_filled),
                 ("ours, a record filled again, in pieces of 64 KB", ours::csv_filled_in_pieces),
+                ("ours, fields lent", ours::csv_lent),
+                ("ours, fields lent, in pieces of 64 KB", ours::csv_lent_in_pieces),
                 ("nom", csv::read_owned),
                 ("nom, fields borrowed", csv::read_borrowed),
             ],
@@ -85,12 +88,40 @@ fn formats(folder: &Path) -> Vec<Format> {
                 ("nom, strings borrowed", resp::read_borrowed),
             ],
         },
+        Format {
+            name: "RESP events",
+            input: file("resp"),
+            ways: vec![
+                ("ours", ours::resp_events),
+                ("ours, in pieces of 64 KB", ours::resp_events_in_pieces),
+                ("nom, strings borrowed, gone over as events", resp::read_events),
+            ],
+        },
         Format { name: "JSON", input: file("json"), ways: vec![("ours", ours::json), ("nom", json::read_owned)] },
         Format {
             name: "JSON events",
             input: file("json"),
             ways: vec![("ours", ours::json_events), ("ours, in pieces of 64 KB", ours::json_events_in_pieces)],
         },
+    ]
+}
+
+// The ways of which one reads byte by byte, over the first MB of each file.
+fn bytewise(folder: &Path) -> Vec<Format> {
+    let front = |name| {
+        let mut input = fs::read(folder.join(name)).expect("the folder has a file for each format");
+        input.truncate(1_000_000);
+        input
+    };
+    let pair =
+        |name, file, whole: Read, bytewise: Read| Format { name, input: front(file), ways: vec![("whole", whole), ("byte by byte", bytewise)] };
+    vec![
+        pair("CSV, by a scan", "csv", ours::csv_scanned, ours::csv_scanned_bytewise),
+        pair("CSV, a record filled again", "csv", ours::csv_filled, ours::csv_filled_bytewise),
+        pair("CSV, fields lent", "csv", ours::csv_lent, ours::csv_lent_bytewise),
+        pair("RESP, by a scan", "resp", ours::resp_scanned, ours::resp_scanned_bytewise),
+        pair("RESP events", "resp", ours::resp_events, ours::resp_events_bytewise),
+        pair("JSON events", "json", ours::json_events, ours::json_events_bytewise),
     ]
 }
 
@@ -103,7 +134,8 @@ fn read_once(formats: &[Format], name: &str, way: &str) -> Option<u64> {
 fn main() -> ExitCode {
     let words: Vec<String> = env::args().skip(1).collect();
     let after = |word: &str| words.iter().skip_while(|other| *other != word).skip(1).map(String::as_str).collect::<Vec<_>>();
-    let formats = formats(Path::new(&words[0]));
+    let folder = Path::new(&words[0]);
+    let mut formats = formats(folder);
     if let [name, way] = after("--once")[..] {
         println!("{}", read_once(&formats, name, way).expect("there is such a way"));
         return ExitCode::SUCCESS;
@@ -114,6 +146,7 @@ fn main() -> ExitCode {
         }
         return ExitCode::SUCCESS;
     }
+    formats.extend(bytewise(folder));
     let turns = after("--turns").first().map_or(15, |turns| turns.parse().expect("a number of turns"));
     if let Some(format) = formats.iter().find(|format| !format.agrees()) {
         println!("values differ: {}", format.name);

@@ -85,3 +85,23 @@ pub fn read_owned(input: &[u8], depth: Depth) -> u64 {
 pub fn read_borrowed(input: &[u8], depth: Depth) -> u64 {
     read::<&[u8]>(input, depth)
 }
+
+// Joins the numbers of a reply's events.
+fn join_events<B: AsRef<[u8]>>(sum: u64, reply: &Reply<B>, depth: Depth) -> u64 {
+    let Reply::Array(replies) = reply else {
+        return join(sum, digest_of(reply, depth));
+    };
+    let sum = join(sum, join(7, replies.len() as u64));
+    join(replies.iter().fold(sum, |sum, one| join_events(sum, one, depth)), 8)
+}
+
+/// Reads replies that borrow their bytes from the input, and goes over them as events.
+pub fn read_events(input: &[u8], depth: Depth) -> u64 {
+    let mut rest = input;
+    let mut sum = 0;
+    while let Ok((after, one)) = reply::<&[u8]>(rest) {
+        sum = join_events(sum, &one, depth);
+        rest = after;
+    }
+    join(sum, rest.len() as u64)
+}
