@@ -1,4 +1,4 @@
-/* Reads a JSON text in eight threads, each with a reader of its own, and compares what they read: `threads [MEMBERS]`, each of which has 52 bytes. */
+/* Reads a JSON text in eight threads, each with a reader of its own, and compares what they read: `threads [MEMBERS]`, each of which has 55 bytes. */
 #include <pthread.h>
 #include <stdio.h>
 #include <stdlib.h>
