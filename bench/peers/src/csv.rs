@@ -67,3 +67,13 @@ pub fn read_owned(input: &[u8], depth: Depth) -> u64 {
 pub fn read_borrowed(input: &[u8], depth: Depth) -> u64 {
     read(input, borrowed, depth)
 }
+
+/// Whether all of the input is records.
+pub fn is_whole(input: &[u8]) -> bool {
+    let mut record = record(borrowed);
+    let mut rest = input;
+    while let Ok((after, _)) = record(rest) {
+        rest = after;
+    }
+    rest.is_empty()
+}

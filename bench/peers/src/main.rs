@@ -1,14 +1,16 @@
 //! Times readers of formats, ours and nom's, answers compared first, and prints a table.
 //!
 //!     winnow-bench-formats FOLDER [--turns N] [--ways] [--once FORMAT WAY]
+//!     winnow-bench-formats --documents COUNT SEED
 //!
 //! FOLDER has the files `csv`, `resp` and `json`. `--ways` only lists the ways to read them, and `--once` reads one file once, in one way, so
-//! that a profiler counts that alone.
+//! that a profiler counts that alone. `--documents` compares what all read of random documents, of which half are damaged.
 
 #[path = "../../rust/src/bin/measure/allocations.rs"]
 mod allocations;
 mod csv;
 mod digest;
+mod documents;
 mod json;
 mod ours;
 mod resp;
@@ -21,6 +23,9 @@ use std::time::Instant;
 use std::{env, fs};
 
 type Read = fn(&[u8], Depth) -> u64;
+
+// How many bytes a piece has.
+const PIECE: usize = 64 * 1024;
 
 /// A format, with each way to read it.
 struct Format {
@@ -68,12 +73,12 @@ fn formats(folder: &Path) -> Vec<Format> {
             name: "CSV",
             input: file("csv"),
             ways: vec![
-                ("ours", ours::csv),
-                ("ours, in pieces of 64 KB", ours::csv_in_pieces),
-                ("ours, a record filled again", ours::csv_filled),
-                ("ours, a record filled again, in pieces of 64 KB", ours::csv_filled_in_pieces),
-                ("ours, fields lent", ours::csv_lent),
-                ("ours, fields lent, in pieces of 64 KB", ours::csv_lent_in_pieces),
+                ("ours", |input, depth| ours::read_csv(input, 0, depth)),
+                ("ours, in pieces of 64 KB", |input, depth| ours::read_csv(input, PIECE, depth)),
+                ("ours, a record filled again", |input, depth| ours::fill_csv(input, 0, depth)),
+                ("ours, a record filled again, in pieces of 64 KB", |input, depth| ours::fill_csv(input, PIECE, depth)),
+                ("ours, fields lent", |input, depth| ours::lend_csv(input, 0, depth)),
+                ("ours, fields lent, in pieces of 64 KB", |input, depth| ours::lend_csv(input, PIECE, depth)),
                 ("nom", csv::read_owned),
                 ("nom, fields borrowed", csv::read_borrowed),
             ],
@@ -82,8 +87,8 @@ fn formats(folder: &Path) -> Vec<Format> {
             name: "RESP",
             input: file("resp"),
             ways: vec![
-                ("ours", ours::resp),
-                ("ours, in pieces of 64 KB", ours::resp_in_pieces),
+                ("ours", |input, depth| ours::read_resp(input, 0, depth)),
+                ("ours, in pieces of 64 KB", |input, depth| ours::read_resp(input, PIECE, depth)),
                 ("nom", resp::read_owned),
                 ("nom, strings borrowed", resp::read_borrowed),
             ],
@@ -92,16 +97,20 @@ fn formats(folder: &Path) -> Vec<Format> {
             name: "RESP events",
             input: file("resp"),
             ways: vec![
-                ("ours", ours::resp_events),
-                ("ours, in pieces of 64 KB", ours::resp_events_in_pieces),
+                ("ours", |input, depth| ours::read_resp_events(input, 0, depth)),
+                ("ours, in pieces of 64 KB", |input, depth| ours::read_resp_events(input, PIECE, depth)),
                 ("nom, strings borrowed, gone over as events", resp::read_events),
             ],
         },
-        Format { name: "JSON", input: file("json"), ways: vec![("ours", ours::json), ("nom", json::read_owned)] },
+        Format { name: "JSON", input: file("json"), ways: vec![("ours", ours::read_json), ("nom", json::read_owned)] },
         Format {
             name: "JSON events",
             input: file("json"),
-            ways: vec![("ours", ours::json_events), ("ours, in pieces of 64 KB", ours::json_events_in_pieces)],
+            ways: vec![
+                ("ours", |input, depth| ours::read_json_events(input, 0, depth)),
+                ("ours, in pieces of 64 KB", |input, depth| ours::read_json_events(input, PIECE, depth)),
+                ("nom, a value gone over as events", |input, depth| json::read_events(input, depth).unwrap_or(u64::MAX)),
+            ],
         },
     ]
 }
@@ -116,12 +125,12 @@ fn bytewise(folder: &Path) -> Vec<Format> {
     let pair =
         |name, file, whole: Read, bytewise: Read| Format { name, input: front(file), ways: vec![("whole", whole), ("byte by byte", bytewise)] };
     vec![
-        pair("CSV, by a scan", "csv", ours::csv_scanned, ours::csv_scanned_bytewise),
-        pair("CSV, a record filled again", "csv", ours::csv_filled, ours::csv_filled_bytewise),
-        pair("CSV, fields lent", "csv", ours::csv_lent, ours::csv_lent_bytewise),
-        pair("RESP, by a scan", "resp", ours::resp_scanned, ours::resp_scanned_bytewise),
-        pair("RESP events", "resp", ours::resp_events, ours::resp_events_bytewise),
-        pair("JSON events", "json", ours::json_events, ours::json_events_bytewise),
+        pair("CSV, by a scan", "csv", |input, depth| ours::scan_csv(input, 0, depth), |input, depth| ours::scan_csv(input, 1, depth)),
+        pair("CSV, a record filled again", "csv", |input, depth| ours::fill_csv(input, 0, depth), |input, depth| ours::fill_csv(input, 1, depth)),
+        pair("CSV, fields lent", "csv", |input, depth| ours::lend_csv(input, 0, depth), |input, depth| ours::lend_csv(input, 1, depth)),
+        pair("RESP, by a scan", "resp", |input, depth| ours::scan_resp(input, 0, depth), |input, depth| ours::scan_resp(input, 1, depth)),
+        pair("RESP events", "resp", |input, depth| ours::read_resp_events(input, 0, depth), |input, depth| ours::read_resp_events(input, 1, depth)),
+        pair("JSON events", "json", |input, depth| ours::read_json_events(input, 0, depth), |input, depth| ours::read_json_events(input, 1, depth)),
     ]
 }
 
@@ -134,6 +143,9 @@ fn read_once(formats: &[Format], name: &str, way: &str) -> Option<u64> {
 fn main() -> ExitCode {
     let words: Vec<String> = env::args().skip(1).collect();
     let after = |word: &str| words.iter().skip_while(|other| *other != word).skip(1).map(String::as_str).collect::<Vec<_>>();
+    if let [count, seed] = after("--documents")[..] {
+        return documents::compare(count.parse().expect("a number of documents"), seed.parse().expect("a number to make them from"));
+    }
     let folder = Path::new(&words[0]);
     let mut formats = formats(folder);
     if let [name, way] = after("--once")[..] {
