@@ -1,16 +1,18 @@
-/* Reads a JSON text in eight threads, each with a reader of its own, and compares what they read. */
+/* Reads a JSON text in eight threads, each with a reader of its own, and compares what they read: `threads [MEMBERS]`, each of which has 55 bytes. */
 #include <pthread.h>
 #include <stdio.h>
+#include <stdlib.h>
 #include <string.h>
 
 #include "woldbraid.h"
 
 #define THREADS 8
-#define MEMBERS 100000
 
 static const char first[] = "{\"list\": [";
 static const char member[] = "{\"name\": \"a\\u00e9\", \"value\": [1, -2.5e3, true, null]}, ";
 static const char last[] = "0]}";
+
+static long members = 100000;
 
 struct outcome {
     uint64_t sum;
@@ -37,7 +39,7 @@ static void *read_text(void *it)
     if (reader == NULL)
         return NULL;
     wb_json_push(reader, first, strlen(first));
-    for (int i = 0; i < MEMBERS; i++) {
+    for (long i = 0; i < members; i++) {
         wb_json_push(reader, member, strlen(member));
         add(reader, &outcome->sum);
     }
@@ -48,10 +50,12 @@ static void *read_text(void *it)
     return NULL;
 }
 
-int main(void)
+int main(int count, char **words)
 {
     pthread_t threads[THREADS];
     struct outcome outcomes[THREADS] = {{0, WB_REFUSED}};
+    if (count > 1)
+        members = atol(words[1]);
     for (int i = 0; i < THREADS; i++)
         if (pthread_create(&threads[i], NULL, read_text, &outcomes[i]) != 0)
             return 2;

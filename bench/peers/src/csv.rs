@@ -50,8 +50,9 @@ fn read<'i, O: AsRef<[u8]>>(input: &'i [u8], field: impl Parser<&'i [u8], O, ()>
     let mut rest = input;
     let mut sum = 0;
     while let Ok((after, fields)) = record(rest) {
-        let fields = fields.iter().fold(fields.len() as u64, |sum, field| join(sum, digest(field.as_ref(), depth)));
-        sum = join(sum, fields);
+        let count = fields.len() as u64;
+        let fields = fields.iter().fold(0, |sum, field| join(sum, digest(field.as_ref(), depth)));
+        sum = join(sum, join(fields, count));
         rest = after;
     }
     join(sum, rest.len() as u64)
@@ -65,4 +66,14 @@ pub fn read_owned(input: &[u8], depth: Depth) -> u64 {
 /// Reads records whose fields borrow from the input where they can.
 pub fn read_borrowed(input: &[u8], depth: Depth) -> u64 {
     read(input, borrowed, depth)
+}
+
+/// Whether all of the input is records.
+pub fn is_whole(input: &[u8]) -> bool {
+    let mut record = record(borrowed);
+    let mut rest = input;
+    while let Ok((after, _)) = record(rest) {
+        rest = after;
+    }
+    rest.is_empty()
 }

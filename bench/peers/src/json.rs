@@ -130,3 +130,24 @@ pub fn read_owned(input: &[u8], depth: Depth) -> u64 {
     let whole = all_consuming(terminated(value, blanks))(input);
     whole.map_or(u64::MAX, |(_, value)| digest_of(&value, depth))
 }
+
+// Joins the numbers of a value's events.
+fn join_events(sum: u64, value: &Value, depth: Depth) -> u64 {
+    match value {
+        Value::Null => join(sum, 6),
+        Value::Bool(truth) => join(sum, join(7, u64::from(*truth))),
+        Value::Number { .. } => join(sum, digest_of(value, depth)),
+        Value::String(text) => join(sum, join(8, digest(text.as_bytes(), depth))),
+        Value::Array(elements) => join(elements.iter().fold(join(sum, 1), |sum, element| join_events(sum, element, depth)), 2),
+        Value::Object(members) => {
+            let member = |sum, (name, member): &(String, Value)| join_events(join(sum, join(5, digest(name.as_bytes(), depth))), member, depth);
+            join(members.iter().fold(join(sum, 3), member), 4)
+        }
+    }
+}
+
+/// Reads one value as its events, if all of the input is one.
+pub fn read_events(input: &[u8], depth: Depth) -> Option<u64> {
+    let (_, value) = all_consuming(terminated(value, blanks))(input).ok()?;
+    Some(join(join_events(0, &value, depth), input.len() as u64))
+}
