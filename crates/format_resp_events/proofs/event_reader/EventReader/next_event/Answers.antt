@@ -7,7 +7,7 @@ use Rattle.format_resp_events.specs.Reading.{GivesOn, IsNext}
 use Rattle.format_resp_events.specs.declared.event.ReplyEvent.TheVariants as event
 use Rattle.winnow_reader.specs.declared.next.Next.TheVariants as next
 use Rattle.format_resp_events.proofs.lemmas.TurnLemmas.{state_at, reader_at, gives-end, gives-whole, gives-array, next-failed, next-waits, head-whole, head-array, head-waits, head-failed}
-use Rattle.format_resp_events.proofs.event_reader.EventReader.read_next.Goals as goal
+use Rattle.format_resp_events.proofs.event_reader.EventReader.next_event.Goals as goal
 
 pub returns-then-not-is_due-clause-read : goal.returns-then-not-is_due-clause-read
 returns-then-not-is_due-clause-read c =
