@@ -87,12 +87,12 @@ pub record HasGiven (r : EventState) (input : List ℕ) (events : List ReplyEven
   pub place : r.replies.place ≡ length bytes
   pub begun : AreBegun (longest_of r) r.depth r.open_arrays bytes events
 
--- no matter what was given, with a piece more the reader has given the same
+-- whatever was given, with a piece more the reader has given the same
 abbrev pub GivesAlso : EventState → List ℕ → EventState → Type 0
 GivesAlso old piece new = (input : List ℕ) (events : List ReplyEvent)
     → HasGiven old input events → HasGiven new (input ++ piece) events
 
--- no matter what was given, the other reader has given that, and these events
+-- whatever was given, the other reader has given that, and these events
 abbrev pub GivesOn : EventState → List ReplyEvent → EventState → Type 0
 GivesOn old events new = (input : List ℕ) (before : List ReplyEvent)
     → HasGiven old input before → HasGiven new input (before ++ events)
@@ -111,8 +111,8 @@ next_events (Ok next.NeedsMore) = []
 next_events (Ok next.Done) = []
 next_events (Err e) = []
 
--- no matter what follows, the reply that is due breaks off at the place, for this cause, within the
--- limit on depth that the open arrays leave
+-- whatever follows, the reply that is due breaks off at the place, for this cause, within the limit
+-- on depth that the open arrays leave
 abbrev pub BreaksAt : EventState → ℕ → Cause → Type 0
 BreaksAt r place cause = BreaksWithin (r.depth - length r.open_arrays) r.replies place cause
 

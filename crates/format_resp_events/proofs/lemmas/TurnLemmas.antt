@@ -28,12 +28,13 @@ use Rattle.format_resp_events.specs.declared.event_reader.EventError.TheVariants
 use Rattle.winnow_reader.specs.declared.next.Next.TheVariants as next
 use Rattle.format_resp_events.proofs.lemmas.EventLemmas.{not-due, begun-end, begun-array, begun-head}
 
--- a reader with this reader of replies, open arrays that lack so many, and this limit on depth
+-- a reader with this reader of replies, open arrays that lack these numbers of replies, and this
+-- limit on depth
 abbrev pub state_at : ReaderState ReplyTo → List ℕ → ℕ → EventState
 state_at replies lacks depth =
     record { replies = replies; open_arrays = lacks; depth = depth }
 
--- a reader with this reader of replies, and arrays that lack so many
+-- a reader with this reader of replies, and open arrays that lack these numbers of replies
 abbrev pub reader_at : EventState → ReaderState ReplyTo → List ℕ → EventState
 reader_at old replies lacks =
     record { replies = replies; open_arrays = lacks; depth = old.depth }
