@@ -23,7 +23,7 @@ argument_of information = if nat_lt information 24 then Held information
 abbrev pub argument_after : ℕ → Argument
 argument_after first = argument_of (first % 32)
 
--- a number of so many bytes, the most significant first
+-- a number in this number of bytes, the most significant first
 abbrev pub SpellsBig : ℕ → Spelling ℕ
 SpellsBig count = SpellsNumber big_endian count unsigned
 

@@ -15,8 +15,8 @@ use winnow_error::ParserError;
 use winnow_parser::ModalResult;
 use winnow_stream::StreamIsPartial;
 
-/// The law of heads: what is written is read back, no matter what follows, and what is read is
-/// written back, byte for byte. It does nothing when called: its contract is the law.
+/// The law of heads: what is written is read back, whatever follows, and what is read is written
+/// back, byte for byte. It does nothing when called: its contract is the law.
 pub fn head_law()
     ensures read { ReadsWhatItWrites IsEqual SpellsHead }
     ensures written { WritesWhatItReads SpellsHead }

@@ -11,17 +11,17 @@ use memchr::memchr;
 /// How far a field was looked at.
 #[derive(Clone, Copy, Debug, Drop)]
 pub(crate) enum Looked {
-    /// So many bytes are plain
+    /// This number of bytes are plain
     Plain(usize),
-    /// So many bytes are an opening quote and bytes of the value, in which a quote is doubled or
-    /// not
+    /// This number of bytes are an opening quote and bytes of the value, in which a quote is
+    /// doubled or not
     Quoted(usize, bool),
 }
 
 /// The text of a field.
 #[derive(Clone, Copy, Debug, Drop)]
 pub(crate) enum Text {
-    /// So many plain bytes
+    /// This number of plain bytes
     Plain(usize),
     /// An opening quote and all bytes up to the closing quote, which stands at this index; a quote
     /// between them is doubled or not
@@ -41,7 +41,7 @@ pub(crate) fn look(bytes: &[u8], looked: Looked) -> Text
     }
 }
 
-// Returns the text of a field of which so many plain bytes were looked at.
+// Returns the text of a field of which this number of plain bytes was looked at.
 fn look_plain(bytes: &[u8], at: usize) -> Text
     requires { IsLooked bytes.now (Plain at) }
     ensures { IsText bytes.now result }

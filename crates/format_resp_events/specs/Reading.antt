@@ -9,7 +9,7 @@ use Rattle.format_resp.specs.declared.causes.Cause.{Cause}
 use Rattle.format_resp.specs.declared.causes.Cause.TheVariants.{EndsInside}
 use Rattle.format_resp.specs.declared.grammar.ReplyTo.{ReplyTo}
 use Rattle.format_resp_events.specs.OpenArrays.{IsDue}
-use Rattle.format_resp_events.specs.Heads.{BreaksWithin}
+use Rattle.format_resp_events.specs.Heads.{BreaksWithin, WantsMore}
 use Rattle.format_resp_events.specs.Events.{SpellsRow, SpellsInside, AreReplies}
 use Rattle.format_resp_events.specs.declared.event.ReplyEvent.{ReplyEvent}
 use Rattle.format_resp_events.specs.declared.event.ReplyEvent.TheVariants as event
@@ -87,12 +87,12 @@ pub record HasGiven (r : EventState) (input : List ℕ) (events : List ReplyEven
   pub place : r.replies.place ≡ length bytes
   pub begun : AreBegun (longest_of r) r.depth r.open_arrays bytes events
 
--- no matter what was given, with a piece more the reader has given the same
+-- whatever was given, with a piece more the reader has given the same
 abbrev pub GivesAlso : EventState → List ℕ → EventState → Type 0
 GivesAlso old piece new = (input : List ℕ) (events : List ReplyEvent)
     → HasGiven old input events → HasGiven new (input ++ piece) events
 
--- no matter what was given, the other reader has given that, and these events
+-- whatever was given, the other reader has given that, and these events
 abbrev pub GivesOn : EventState → List ReplyEvent → EventState → Type 0
 GivesOn old events new = (input : List ℕ) (before : List ReplyEvent)
     → HasGiven old input before → HasGiven new input (before ++ events)
@@ -111,8 +111,8 @@ next_events (Ok next.NeedsMore) = []
 next_events (Ok next.Done) = []
 next_events (Err e) = []
 
--- no matter what follows, the reply that is due breaks off at the place, for this cause, within the
--- limit on depth that the open arrays leave
+-- whatever follows, the reply that is due breaks off at the place, for this cause, within the limit
+-- on depth that the open arrays leave
 abbrev pub BreaksAt : EventState → ℕ → Cause → Type 0
 BreaksAt r place cause = BreaksWithin (r.depth - length r.open_arrays) r.replies place cause
 
@@ -125,18 +125,18 @@ end_answer (n ∷ lacks) fed = Err (error.Damaged fed EndsInside)
 abbrev pub IsWhole : EventState → Type 0
 IsWhole r = IsThrough r.replies × (r.open_arrays ≡ [])
 
--- the reader goes on: it takes bytes, or closes an array
+-- the reader goes on: it takes bytes, and wants none; or it closes an array
 abbrev pub Advances : EventState → EventState → Type 0
-Advances old new = (length new.replies.ahead < length old.replies.ahead)
+Advances old new = ((length new.replies.ahead < length old.replies.ahead) × (new.replies.wanted ≡ 0))
     ⊎ ((new.replies ≡ old.replies) × (length new.open_arrays < length old.open_arrays))
 
--- what the reader answers: an event, and it goes on; or more is needed, and the input goes on; or
--- done, where it is whole; or the reply that is due breaks off, no matter what follows, and nothing
--- changes
+-- what the reader answers: an event, and it goes on; or that a reply is due and more of it is
+-- needed, and only how many bytes are wanted changes; or done, where it is whole; or the reply that
+-- is due breaks off, whatever follows, and nothing changes
 abbrev pub IsNext : EventState → Result (Next ReplyEvent) EventError → EventState → Type 0
 IsNext old (Ok (next.Value event)) new = Advances old new
-IsNext old (Ok next.NeedsMore) new =
-    (old.replies.ended ≡ false) × (new ≡ events_waiting old new.replies.wanted)
+IsNext old (Ok next.NeedsMore) new = IsDue old.open_arrays × WantsMore old.replies new.replies
+    × (new ≡ events_waiting old new.replies.wanted)
 IsNext old (Ok next.Done) new = IsWhole old × (new ≡ old)
 IsNext old (Err (error.Damaged place cause)) new = BreaksAt old place cause × (new ≡ old)
 IsNext old (Err (error.Refused r)) new = new ≡ old

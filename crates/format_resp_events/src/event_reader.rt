@@ -143,7 +143,7 @@ impl EventReader {
     ///
     /// After an error the reader stays as it is, and each call gives that error again. Where more
     /// is needed or memory was refused, the call may be made again.
-    pub fn read_next(&mut self) -> Result<Next<ReplyEvent>, EventError>
+    pub fn next_event(&mut self) -> Result<Next<ReplyEvent>, EventError>
         ensures read { GivesOn self.old (next_events result) self.new }
         ensures keeps { KeepsLimits self.old self.new }
         ensures answer { IsNext self.old result self.new }

@@ -105,7 +105,7 @@ impl RespReader {
     pub fn next_event(&mut self, event: &mut RespEvent) -> Status
         ensures { GivesReplyEvent self.old result event.new self.new }
     {
-        let answer = self.reader.read_next();
+        let answer = self.reader.next_event();
         self.tell(answer, event)
     }
 

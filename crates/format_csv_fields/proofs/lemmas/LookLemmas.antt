@@ -122,7 +122,7 @@ text-looked bytes (Open doubles) (value, (chunk, (e, others, quotes))) = (
   ),
 )
 
--- bytes that are looked at to some place are so with a piece after them
+-- bytes that are looked at to some place stay so with a piece after them
 pub looked-more : (bytes piece : List ℕ) (l : Looked) → IsLooked bytes l
     → IsLooked (bytes ++ piece) l
 looked-more bytes piece (looked.Plain n) (l, each) = (

@@ -188,7 +188,7 @@ module _ (f g h : ReaderState Row) (n k : ℕ) (l : n ≤ length f.ahead) (e : k
   pushed-state piece p =
       ap (λ x. taken_by x 0) (p ∙ ap (λ x. pushed x piece) skip-takes) ∙ taken-none (pushed (taken_by f n) piece) refl
 
-  -- nor does it where memory is refused
+  -- it takes nothing either where memory is refused
   pub unspent-state : h ≡ unspent g → taken_by h 0 ≡ unspent (taken_by f n)
   unspent-state p =
       ap (λ x. taken_by x 0) (p ∙ ap (λ x. unspent x) skip-takes) ∙ taken-none (unspent (taken_by f n)) refl
@@ -324,7 +324,7 @@ pub look-ahead : (kept ahead : List ℕ) (at : ℕ) (l : Looked) → kept ≡ ah
     → IsLooked (drop at ahead) l → IsLooked (take (length kept - at) (drop at kept)) l
 look-ahead kept ahead at l e is = subst (λ xs. IsLooked xs l) (sym (slice-ahead kept ahead at e)) is
 
--- bytes that are looked at are so with a piece after them, after what was taken is skipped
+-- bytes that are looked at stay so with a piece after them, once what was taken is skipped
 pub looked-pushed : (kept ahead piece : List ℕ) (n : ℕ) (l : Looked) → kept ≡ drop n ahead ++ piece
     → IsLooked (drop n ahead) l → IsLooked (drop 0 kept) l
 looked-pushed kept ahead piece n l e is =

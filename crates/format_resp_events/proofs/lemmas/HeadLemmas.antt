@@ -33,13 +33,9 @@ use Rattle.format_resp.proofs.lemmas.DamageLemmas.{damage-of}
 use Rattle.format_resp.proofs.lemmas.FaultLemmas.{cause-stays}
 use Rattle.format_resp.proofs.lemmas.PartLemmas.{drop-front, length-line-of}
 use Rattle.format_resp.proofs.lemmas.ReplyLemmas.{yields-nested, spells-begins}
-use Rattle.format_resp_events.specs.Heads.{BeginsArray, Passes, BreaksWithin}
+use Rattle.format_resp_events.specs.Heads.{BeginsArray, Passes, BreaksWithin, Reading}
 
 -- ---- The parser of a reader
-
--- the parser of replies, over the bytes that a reader has ahead
-abbrev pub Reading : ReplyTo → Meaning Reply ℕ
-Reading r = Nested itself true IsByteSlice (λ (slice : Bor (List ℕ)). slice.now) r.longest r.depth
 
 -- slices of bytes have their own bytes
 have-bytes : SlicesHaveBytes IsByteSlice (λ (slice : Bor (List ℕ)). slice.now)
@@ -286,6 +282,7 @@ passes-line f text after n whole e =
       place = ap (λ m. f.place + m) count;
       parser = refl;
       ended = refl;
+      wanted = refl;
     }
 
 -- ---- Whole replies
@@ -309,6 +306,7 @@ passes-reply old new y (n, (some, within, means, taken)) =
           place = ap (λ (f : ReaderState ReplyTo). f.place) taken ∙ ap (λ m. old.place + m) count;
           parser = ap (λ (f : ReaderState ReplyTo). f.parser) taken;
           ended = ap (λ (f : ReaderState ReplyTo). f.ended) taken;
+          wanted = ap (λ (f : ReaderState ReplyTo). f.wanted) taken;
         },
         k.1.1,
       ),

@@ -16,7 +16,7 @@ use Rattle.format_resp.specs.declared.grammar.ReplyTo.{ReplyTo}
 use Rattle.format_resp.specs.declared.reply.Reply.{Reply}
 use Rattle.format_resp.specs.declared.reply.Reply.TheViews.{out-Reply}
 use Rattle.format_resp_events.specs.Events.{first_event}
-use Rattle.format_resp_events.specs.Heads.{Passes, BreaksWithin, IsHead}
+use Rattle.format_resp_events.specs.Heads.{Passes, BreaksWithin, WantsMore, IsHead}
 use Rattle.format_resp_events.specs.OpenArrays.{is_due, IsDue, after_reply, after_array, after_head}
 use Rattle.format_resp_events.specs.Reading.{EventState, longest_of, AreBegun, HasGiven, GivesAlso, GivesOn, KeepsLimits, Advances, BreaksAt, next_events, end_answer, IsNext}
 use Rattle.format_resp_events.specs.declared.event.ReplyEvent.{ReplyEvent}
@@ -28,12 +28,13 @@ use Rattle.format_resp_events.specs.declared.event_reader.EventError.TheVariants
 use Rattle.winnow_reader.specs.declared.next.Next.TheVariants as next
 use Rattle.format_resp_events.proofs.lemmas.EventLemmas.{not-due, begun-end, begun-array, begun-head}
 
--- a reader with this reader of replies, open arrays that lack so many, and this limit on depth
+-- a reader with this reader of replies, open arrays that lack these numbers of replies, and this
+-- limit on depth
 abbrev pub state_at : ReaderState ReplyTo → List ℕ → ℕ → EventState
 state_at replies lacks depth =
     record { replies = replies; open_arrays = lacks; depth = depth }
 
--- a reader with this reader of replies, and arrays that lack so many
+-- a reader with this reader of replies, and open arrays that lack these numbers of replies
 abbrev pub reader_at : EventState → ReaderState ReplyTo → List ℕ → EventState
 reader_at old replies lacks =
     record { replies = replies; open_arrays = lacks; depth = old.depth }
@@ -137,7 +138,7 @@ keeps-passed old replies lacks one p = (ap (λ (r : ReplyTo). r.longest) p.parse
 pub advances-passed : (old : EventState) (replies : ReaderState ReplyTo) (lacks one : List ℕ)
     → Passes old.replies one replies → 0 < length one → Advances old (reader_at old replies lacks)
 advances-passed old replies lacks one p some =
-    inl (omega (arith, some, ap length p.whole, length-append one replies.ahead))
+    inl (omega (arith, some, ap length p.whole, length-append one replies.ahead), p.wanted)
 
 -- after a reply as many arrays are open
 reply-length : (lacks : List ℕ) → length (after_reply lacks) ≡ length lacks
@@ -215,10 +216,12 @@ next-failed old replies lacks deep (error.Refused r) same e within =
 
 -- where more is needed, only how many bytes are wanted changes
 pub next-waits : (old : EventState) (replies : ReaderState ReplyTo) (lacks : List ℕ)
-    → old.replies.ended ≡ false → replies ≡ waiting_for old.replies replies.wanted
-    → lacks ≡ old.open_arrays → IsNext old (Ok next.NeedsMore) (reader_at old replies lacks)
-next-waits old replies lacks goes same e = (
-  goes,
+    → IsDue old.open_arrays → WantsMore old.replies replies
+    → replies ≡ waiting_for old.replies replies.wanted → lacks ≡ old.open_arrays
+    → IsNext old (Ok next.NeedsMore) (reader_at old replies lacks)
+next-waits old replies lacks due wants same e = (
+  due,
+  wants,
   ap (λ f. reader_at old f lacks) same ∙ ap (reader_at old (waiting_for old.replies replies.wanted)) e,
 )
 
@@ -243,6 +246,12 @@ pub head-array : (deep : Bool) (old new : ReaderState ReplyTo) (result : Result 
     → (deep ≡ false) × ((text : List ℕ)
     × (Passes old (42 ∷ line text) new × IsLength greatest_count text (Some n)))
 head-array deep old new result n e h = subst (λ r. IsHead deep old r new) e h
+
+-- where its bytes are not there, more is needed
+pub head-waits : (deep : Bool) (old new : ReaderState ReplyTo) (result : Result Head EventError)
+    → result ≡ Ok head.NeedsMore → IsHead deep old result new
+    → WantsMore old new × (new ≡ waiting_for old new.wanted)
+head-waits deep old new result e h = subst (λ r. IsHead deep old r new) e h
 
 -- where there is none, the error says why
 pub head-failed : (deep : Bool) (old new : ReaderState ReplyTo) (result : Result Head EventError)

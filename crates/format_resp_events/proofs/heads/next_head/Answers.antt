@@ -3,8 +3,8 @@ use Rattle.winnow_reader.specs.State.{ReaderState}
 use Rattle.winnow_reader.specs.Answering.{FailsAt, FailsAt-by}
 use Rattle.format_resp.specs.Language.{Spells}
 use Rattle.format_resp.specs.declared.grammar.ReplyTo.{ReplyTo}
-use Rattle.format_resp_events.specs.Heads.{IsHead}
-use Rattle.format_resp_events.proofs.lemmas.HeadLemmas.{Reading, passes-reply, never-idle}
+use Rattle.format_resp_events.specs.Heads.{IsHead, Reading}
+use Rattle.format_resp_events.proofs.lemmas.HeadLemmas.{passes-reply, never-idle}
 use Rattle.format_resp_events.proofs.heads.next_head.Goals as goal
 
 pub returns-in-Ok-Value : goal.returns-in-Ok-Value
@@ -17,7 +17,14 @@ returns-in-Ok-Value c =
 pub returns-in-Ok-NeedsMore : goal.returns-in-Ok-NeedsMore
 returns-in-Ok-NeedsMore c =
     let waits = rw c.in-Ok-NeedsMore.field-0-is at c.in-Ok-NeedsMore.ensures.next in
-    (waits.0, waits.3)
+    (
+      record {
+        goes_on = waits.0;
+        asked = waits.2;
+        early = λ fewer. (c.in-Ok-NeedsMore.ensures.early waits.0 fewer).1;
+      },
+      waits.3,
+    )
 
 pub returns-in-Ok-Done : goal.returns-in-Ok-Done
 returns-in-Ok-Done c = rw c.in-Ok-Done.field-0-is at c.in-Ok-Done.ensures.next
