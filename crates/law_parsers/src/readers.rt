@@ -5,13 +5,13 @@ use crate::lines::{Nothing, NumberLine, number_line, word_line};
 use crate::text_lines::{TextLine, text_line};
 use std::alloc::Global;
 use std::test::Fail;
-use winnow_reader_limit::{
-    Limited, LimitedError, determined_limit_law, limit_law, limited, scan_limit_law, with_limit,
-};
 use winnow_reader::{
     ByteReader, Next, ReadError, Record, Skipped, Utf8Record, bytes_at_law, damage_law,
     determined_reading_law, determined_text_law, skip_law, skip_to_law, told_damage_law,
     waiting_law,
+};
+use winnow_reader_limit::{
+    Limited, LimitedError, determined_limit_law, limit_law, limited, scan_limit_law, with_limit,
 };
 use winnow_scan::{Line, Scan, ScanReader, scan_law, scan_skip_law};
 

@@ -16,8 +16,7 @@ returns-in-Ok-Value c =
 
 pub returns-in-Ok-NeedsMore : goal.returns-in-Ok-NeedsMore
 returns-in-Ok-NeedsMore c =
-    let waits = rw c.in-Ok-NeedsMore.field-0-is at c.in-Ok-NeedsMore.ensures.next in
-    (
+    let waits = rw c.in-Ok-NeedsMore.field-0-is at c.in-Ok-NeedsMore.ensures.next in (
       record {
         goes_on = waits.0;
         asked = waits.2;

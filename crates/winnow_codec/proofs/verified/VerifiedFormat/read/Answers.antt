@@ -10,5 +10,5 @@ returns-else-is_allowed-clause-means g c =
     none-other g.F.Format.same inner (g.met.F.Format.lawful c.args.self.now.inner) (SpellsAllowed allows inner) (λ v. v) (λ _ _ s. s.1)
     (g.I.StreamIsPartial.expects_more c.args.input.now) _ _ c.in-Ok.value c.in-Ok.ensures.means
     (λ w _ s same.
-        let equal : c.in-Ok.value ≡ w = g.met.F.Exact.exact c.in-Ok.value w same in
-        let allowed = c.is_allowed.ensures.1 (subst allows (sym equal) s.0) in cc)
+    let equal : c.in-Ok.value ≡ w = g.met.F.Exact.exact c.in-Ok.value w same in
+    let allowed = c.is_allowed.ensures.1 (subst allows (sym equal) s.0) in cc)
