@@ -62,8 +62,8 @@ NEVER = {
     **{f"write_{name}": rf"^pub fn write_{name}<" for name in ROWS},
 }
 
-# How rows begin that are of the program of scripts, and of a reader of text.
-FURTHER = ("script: ", "text: ")
+# How rows begin that are of the program of scripts, of a reader of text, and of one of replies.
+FURTHER = ("script: ", "text: ", "replies: ")
 
 
 def formats():

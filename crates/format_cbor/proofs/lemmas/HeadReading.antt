@@ -12,8 +12,8 @@ use Rattle.winnow_codec.specs.declared.widths.Width.{Width}
 use Rattle.winnow_codec.proofs.lemmas.Lists.{takes-none}
 use Rattle.winnow_codec.proofs.lemmas.Reading.{none-other, fewer-unread}
 use Rattle.format_cbor.specs.Arguments.{SpellsBig, SpellsArgument}
-use Rattle.format_cbor.specs.Heads.{rank, initial_of, SpellsInitial, SpellsHead, IsHeadOf}
-use Rattle.format_cbor.specs.HeadLaws.{rank-tells, IsFormat-Initial}
+use Rattle.format_cbor.specs.Heads.{initial_of, SpellsInitial, SpellsHead, IsHeadOf}
+use Rattle.format_cbor.specs.HeadLaws.{IsFormat-Initial}
 use Rattle.format_cbor.specs.declared.argument.Argument.{Argument}
 use Rattle.format_cbor.specs.declared.argument.Argument.TheVariants.{Held, Following, Missing}
 use Rattle.format_cbor.specs.declared.head.Head.{Head}
@@ -79,7 +79,3 @@ head-other first n other partial a b reads =
 pub head-unread : (partial : Bool) (a : Ahead ℕ) (f : Failed ℕ)
     → Reads SpellsInitial partial a (Fails f) → Reads SpellsHead partial a (Fails f)
 head-unread = fewer-unread SpellsInitial SpellsHead (λ h. (initial_of h.kind h.argument, h.argument)) (λ h bytes s. s.1)
-
--- heads of one kind with one argument are one
-pub head-equal : (h k : Head) → rank h.kind ≡ rank k.kind → h.argument ≡ k.argument → h ≡ k
-head-equal h k e f = let same : h.kind ≡ k.kind = rank-tells h.kind k.kind e in λ i. record { kind = same i; argument = f i }

@@ -1,21 +1,16 @@
 -- Lemmas on lending the value of a text.
 use Rattle.std.specs.Prelude.{Bool, false, drop, take}
-use Rattle.std.proofs.Common.{◌≡◌, ℕ, ◌+◌, ◌-◌, ◌≤◌, List, ◌∷◌, ◌++◌, length, ap, sym, ◌∙◌, arith, length-drop, length-append}
+use Rattle.std.proofs.Common.{◌≡◌, ℕ, ◌+◌, ◌-◌, List, ◌∷◌, ◌++◌, length, ap, sym, ◌∙◌, arith, length-drop, length-append}
 use Rattle.std.proofs.Math.Seq.{take-append_seam}
 use Rattle.std.proofs.lemmas.List.{drop-drop}
 use Rattle.format_lemmas.proofs.lemmas.ByteLemmas.{tails}
 use Rattle.format_csv.specs.Fields.{doubled}
 use Rattle.format_csv.specs.FillingFields.{ClosesQuoted}
 use Rattle.format_csv.proofs.lemmas.ByteLemmas.{closed-once, doubled-others}
-use Rattle.format_csv_fields.specs.declared.looking.Text.TheVariants.{Plain, Quoted}
+use Rattle.format_csv_fields.specs.declared.looking.Text.TheVariants.{Quoted}
 use Rattle.format_csv_fields.specs.declared.lending.Lent.TheVariants.{Kept}
 use Rattle.format_csv_fields.specs.Looking.{IsText, IsQuoted}
 use Rattle.format_csv_fields.specs.Lending.{Lends}
-
--- the value of plain bytes is in the kept bytes
-pub lends-plain : (kept value : List ℕ) (at n : ℕ)
-    → Lends (drop at kept) (Plain n) (Kept at (at + n)) kept value
-lends-plain kept value at n = λ field is. ap (λ k. take k (drop at kept)) (omega arith) ∙ is
 
 -- the first bytes of a value with further bytes, as many as the value has, are the value
 front-of : (value rest bytes : List ℕ) (n : ℕ) → bytes ≡ value ++ rest → n ≡ length value
@@ -28,17 +23,7 @@ module _ (kept : List ℕ) (at n : ℕ) (doubles : Bool) (h : IsText (drop at ke
       → drop (at + 1) kept ≡ doubled value ++ 34 ∷ drop (n + 1) (drop at kept)
   after-quote value is = sym (drop-drop 1 at kept) ∙ ap (drop 1) is.0
 
-  -- the value that the text has
-  pub text-value : List ℕ
-  text-value = h.2.0
-
-  -- it closes before a rest
-  pub text-closes : (inside : List ℕ) → inside ≡ drop (at + 1) kept
-      → ClosesQuoted text-value inside (drop (n + 1) (drop at kept))
-  unfolding text-value
-  text-closes inside e = (e ∙ after-quote h.2.0 h.2.1.0, h.2.1.0.1)
-
-  -- each value of the text closes before that rest
+  -- each value of the text closes before what stands after the closing quote
   pub value-closes : (field inside : List ℕ) → inside ≡ drop (at + 1) kept
       → IsQuoted (drop at kept) n field → ClosesQuoted field inside (drop (n + 1) (drop at kept))
   value-closes field inside e is = (e ∙ after-quote field is, is.1)
@@ -47,10 +32,6 @@ module _ (kept : List ℕ) (at n : ℕ) (doubles : Bool) (h : IsText (drop at ke
   value-long : n ≡ length (doubled h.2.0) + 1
   value-long =
       omega (arith, h.0, ap length h.2.1.0.0, length-append (doubled h.2.0) (34 ∷ drop (n + 1) (drop at kept)), length-drop (n + 1) (drop at kept))
-
-  -- the closing quote is within the kept bytes, and not the first byte
-  pub quotes-within : (1 ≤ n) × (at + n + 1 ≤ length kept)
-  quotes-within = (omega (arith, value-long), omega (arith, h.0, length-drop at kept))
 
   -- without doubled quotes the value is in the kept bytes
   pub lends-quoted : (value : List ℕ) → doubles ≡ false

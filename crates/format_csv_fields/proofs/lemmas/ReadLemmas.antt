@@ -3,7 +3,7 @@ use Rattle.std.specs.Prelude.{Bool, true, false, not, min, take, drop, Result, O
 use Rattle.std.proofs.Common.{◌≡◌, ◌≢◌, ℕ, ◌+◌, ◌-◌, ◌≤◌, ◌<◌, zero, suc, List, [], ◌∷◌, ◌++◌, length, refl, inl, inr, ap, sym, ◌∙◌, subst, arith, append_assoc, length-append, length-drop}
 use Rattle.std.proofs.lemmas.List.{drop-drop}
 use Rattle.winnow_reader.specs.Reading.{MayFollow}
-use Rattle.winnow_reader.specs.State.{ReaderState, taken_by, pushed, unspent, ended_after, fed_of}
+use Rattle.winnow_reader.specs.State.{ReaderState, taken_by, pushed, ended_after, fed_of}
 use Rattle.winnow_reader.specs.Skips.{skipped}
 use Rattle.winnow_reader.specs.declared.next.Next.{Next}
 use Rattle.winnow_reader.specs.declared.next.Next.TheVariants as next
@@ -25,7 +25,7 @@ use Rattle.format_csv_fields.specs.declared.lending.Lent.{Lent}
 use Rattle.format_csv_fields.specs.Lending.{lent_bytes, Lends}
 use Rattle.format_csv_fields.specs.FieldState.{FieldState, new_reader, lends_nothing, fields_pushed, fields_ended}
 use Rattle.format_csv_fields.specs.Reading.{AreFields, AreRead, IsWithin, HasRead, ReadsAlso, ReadsThrough, ReadsOn, is_comma, TakesField, FindsDamage, ReadsNext, TellsDamage}
-use Rattle.format_csv_fields.proofs.lemmas.LookLemmas.{text-looked, looked-more}
+use Rattle.format_csv_fields.proofs.lemmas.LookLemmas.{text-looked}
 use Rattle.format_csv_fields.proofs.lemmas.FieldsLemmas.{fields-more, fields-record, fields-some, fields-none, fields-damaged}
 
 -- a new reader has read no fields
@@ -188,11 +188,6 @@ module _ (f g h : ReaderState Row) (n k : ℕ) (l : n ≤ length f.ahead) (e : k
   pushed-state piece p =
       ap (λ x. taken_by x 0) (p ∙ ap (λ x. pushed x piece) skip-takes) ∙ taken-none (pushed (taken_by f n) piece) refl
 
-  -- it takes nothing either where memory is refused
-  pub unspent-state : h ≡ unspent g → taken_by h 0 ≡ unspent (taken_by f n)
-  unspent-state p =
-      ap (λ x. taken_by x 0) (p ∙ ap (λ x. unspent x) skip-takes) ∙ taken-none (unspent (taken_by f n)) refl
-
 -- a reader of fields after its inner reader notes the end
 pub end-view : (old : FieldState) (f g : ReaderState Row) (at limit : ℕ) (within : Bool)
     (lent : Lent) (value : List ℕ)
@@ -313,22 +308,6 @@ pub looked-ahead : (kept ahead : List ℕ) (at : ℕ) (text : Text) (l : Looked)
 looked-ahead kept ahead at text l e is same =
     subst (λ xs. IsLooked xs l) (slice-ahead kept ahead at e)
     (subst (IsLooked (take (length kept - at) (drop at kept))) (sym same) (text-looked (take (length kept - at) (drop at kept)) text is))
-
--- the text of the slice is that of the bytes ahead
-pub text-ahead : (kept ahead : List ℕ) (at : ℕ) (text : Text) → kept ≡ ahead
-    → IsText (take (length kept - at) (drop at kept)) text → IsText (drop at ahead) text
-text-ahead kept ahead at text e is = subst (λ xs. IsText xs text) (slice-ahead kept ahead at e) is
-
--- the bytes ahead are looked at as far as the slice is
-pub look-ahead : (kept ahead : List ℕ) (at : ℕ) (l : Looked) → kept ≡ ahead
-    → IsLooked (drop at ahead) l → IsLooked (take (length kept - at) (drop at kept)) l
-look-ahead kept ahead at l e is = subst (λ xs. IsLooked xs l) (sym (slice-ahead kept ahead at e)) is
-
--- bytes that are looked at stay so with a piece after them, once what was taken is skipped
-pub looked-pushed : (kept ahead piece : List ℕ) (n : ℕ) (l : Looked) → kept ≡ drop n ahead ++ piece
-    → IsLooked (drop n ahead) l → IsLooked (drop 0 kept) l
-looked-pushed kept ahead piece n l e is =
-    subst (λ xs. IsLooked xs l) (sym e) (looked-more (drop n ahead) piece l is)
 
 -- a malformed field is found at its place
 pub finds-damage : (f : FieldState) (text : Text) (n place : ℕ)

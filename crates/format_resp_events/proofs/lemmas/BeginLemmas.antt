@@ -1,12 +1,10 @@
 -- The events so far are the first ones of the replies that the input becomes.
 use Rattle.std.proofs.Common.{◌≡◌, ℕ, zero, suc, ◌+◌, ◌-◌, ◌<◌, List, [], ◌∷◌, ◌++◌, length, Some, refl, ap, sym, ◌∙◌, subst, inl, inr, arith, append_assoc}
-use Rattle.std.specs.Prelude.{◌⊎◌, ⊤}
-use Rattle.std.proofs.lemmas.List.{append-nil}
 use Rattle.winnow_reader.specs.SameValues.{AreAlike, IsFrontOf}
 use Rattle.format_resp.specs.Language.{line, IsLength, greatest_count}
-use Rattle.format_resp_events.specs.Events.{SameEvent, SpellsRow, SpellsScalar, SpellsEither, SpellsNothing, SpellsEvents, SpellsInside, AreReplies}
+use Rattle.format_resp_events.specs.Events.{SameEvent, SpellsRow, SpellsEvents, SpellsInside, AreReplies}
 use Rattle.format_resp_events.specs.OpenArrays.{IsDue}
-use Rattle.format_resp_events.specs.Reading.{SpellsBegun, AreBegun}
+use Rattle.format_resp_events.specs.Reading.{AreBegun}
 use Rattle.format_resp_events.specs.declared.event.ReplyEvent.{ReplyEvent}
 use Rattle.format_resp_events.specs.declared.event.ReplyEvent.TheVariants as event
 use Rattle.format_resp_events.proofs.lemmas.EventLemmas.{at-either, due-some}

@@ -1,14 +1,13 @@
 -- Bytes with events: one reply more, an array that begins, and one that ends.
-use Rattle.std.proofs.Common.{◌≡◌, ℕ, zero, suc, ◌+◌, ◌-◌, ◌<◌, ◌≤◌, Bool, true, false, List, [], ◌∷◌, ◌++◌, length, Some, refl, ap, sym, ◌∙◌, subst, inl, inr, arith, append_assoc}
-use Rattle.std.specs.Prelude.{◌⊎◌, nat_lt}
+use Rattle.std.proofs.Common.{◌≡◌, ℕ, zero, suc, ◌+◌, ◌-◌, ◌<◌, true, false, List, [], ◌∷◌, ◌++◌, length, Some, refl, ap, sym, ◌∙◌, subst, inl, inr, arith, append_assoc}
 use Rattle.std.proofs.lemmas.Bool.Decides.{nat_tests}
 use Rattle.std.proofs.lemmas.List.{append-nil}
-use Rattle.format_resp.specs.Language.{line, IsLength, greatest_count, SpellAll, SpellsNone, SpellsLayer, Spells}
+use Rattle.format_resp.specs.Language.{line, IsLength, greatest_count, SpellAll, SpellsNone, SpellsLayer}
 use Rattle.format_resp.specs.declared.reply.Reply.{Reply}
 use Rattle.format_resp.specs.declared.reply.Reply.TheOpen.{Reply-F, Simple, Error, Integer, Bulk, NullBulk, Array, NullArray}
-use Rattle.format_resp_events.specs.Events.{SpellsRow, SpellsArray, SpellsScalar, SpellsEither, SpellsNothing, SpellsEvents, SpellsInside, first_event}
-use Rattle.format_resp_events.specs.OpenArrays.{is_due, IsDue, after_reply, after_array, after_head}
-use Rattle.format_resp_events.specs.Reading.{SpellsBegun, AreBegun}
+use Rattle.format_resp_events.specs.Events.{SpellsRow, SpellsScalar, SpellsEither, SpellsEvents, SpellsInside, first_event}
+use Rattle.format_resp_events.specs.OpenArrays.{is_due, IsDue, after_reply, after_head}
+use Rattle.format_resp_events.specs.Reading.{AreBegun}
 use Rattle.format_resp_events.specs.declared.event.ReplyEvent.{ReplyEvent}
 use Rattle.format_resp_events.specs.declared.event.ReplyEvent.TheVariants as event
 

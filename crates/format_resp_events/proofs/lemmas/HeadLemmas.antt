@@ -1,30 +1,29 @@
 -- The head of a reply, from what a reader of replies that stand in no array answers.
-use Rattle.std.proofs.Common.{◌≡◌, ℕ, zero, suc, ◌+◌, ◌-◌, ◌<◌, ◌≤◌, Bool, true, false, not, List, [], ◌∷◌, ◌++◌, length, take, drop, min, refl, ap, sym, ◌∙◌, subst, inl, inr, arith}
-use Rattle.std.specs.Prelude.{◌⊎◌, Option, Some, None}
+use Rattle.std.proofs.Common.{◌≡◌, ℕ, zero, suc, ◌+◌, ◌-◌, ◌≤◌, Bool, true, false, not, List, [], ◌∷◌, ◌++◌, length, take, drop, min, refl, ap, sym, ◌∙◌, subst, inl, inr, arith}
 use Rattle.std.specs.Borrow.{Bor}
 use Rattle.std.proofs.lemmas.List.{append-nil, length-append, length-drop, take_rest, take-append-drop, drop-append-le, map-append}
 use Rattle.std.proofs.lemmas.Option.{same_Some}
 use Rattle.winnow_stream.specs.Source.{Source, units, width}
 use Rattle.winnow_stream.specs.Units.{HasPositiveWidths-units}
 use Rattle.winnow_stream.specs.SliceBytes.{SlicesHaveBytes}
-use Rattle.winnow_parser.specs.Outcome.{Ahead, Gives, Fails, Backtracks, Cuts, Meaning, Moves}
+use Rattle.winnow_parser.specs.Outcome.{Ahead, Fails, Backtracks, Cuts, Moves}
 use Rattle.winnow_reader.specs.Place.{bytes_at, IsByteSlice, SlicesStay-bytes}
-use Rattle.winnow_reader.specs.State.{ReaderState, taken_by}
+use Rattle.winnow_reader.specs.State.{ReaderState}
 use Rattle.winnow_reader.specs.Skips.{skipped}
 use Rattle.winnow_reader.specs.Reading.{MayFollow}
 use Rattle.winnow_reader.specs.Answering.{StopsAt, FailsAt, IdlesAt, TakesValue}
-use Rattle.winnow_reader.proofs.lemmas.PlaceLemmas.{moved-bytes, length-moved}
+use Rattle.winnow_reader.proofs.lemmas.PlaceLemmas.{moved-bytes}
 use Rattle.format_lemmas.specs.Bytes.{bytes_of}
 use Rattle.format_lemmas.proofs.lemmas.ByteLemmas.{bytes-units}
 use Rattle.format_lemmas.proofs.lemmas.TokenLemmas.{itself}
-use Rattle.format_resp.specs.Language.{line, IsLength, greatest_count, SpellsNone, Spells}
-use Rattle.format_resp.specs.Meanings.{Nested, IsParser-Nested}
+use Rattle.format_resp.specs.Language.{line, greatest_count, SpellsNone, Spells}
+use Rattle.format_resp.specs.Meanings.{IsParser-Nested}
 use Rattle.format_resp.specs.Ahead.{IsAhead}
 use Rattle.format_resp.specs.Answers.{IsSettled}
 use Rattle.format_resp.specs.Damage.{cause_at, BodyBreaksOff, StopsAt as StopsFor, BreaksOff}
 use Rattle.format_resp.specs.Causes.{IsDamaged, IsCauseOf}
 use Rattle.format_resp.specs.declared.causes.Cause.{Cause}
-use Rattle.format_resp.specs.declared.causes.Cause.TheVariants.{EndsInside, NoKind, TooDeep, NoLineEnd}
+use Rattle.format_resp.specs.declared.causes.Cause.TheVariants.{NoKind, TooDeep, NoLineEnd}
 use Rattle.format_resp.specs.declared.grammar.ReplyTo.{ReplyTo}
 use Rattle.format_resp.specs.declared.reply.Reply.{Reply}
 use Rattle.format_resp.proofs.lemmas.AheadLemmas.{ahead-join, ahead-narrower}

@@ -1,5 +1,5 @@
 -- What the law of events says of a reader.
-use Rattle.std.proofs.Common.{◌≡◌, ℕ, List, [], ◌++◌, ap, sym, ◌∙◌, subst, append_assoc}
+use Rattle.std.proofs.Common.{◌≡◌, ℕ, List, ◌++◌, ap, sym, ◌∙◌, subst, append_assoc}
 use Rattle.std.proofs.lemmas.List.{append-nil}
 use Rattle.winnow_reader.specs.SameValues.{IsFrontOf}
 use Rattle.format_resp_events.specs.Events.{AreReplies, SameEvent}

@@ -1,12 +1,10 @@
 -- The line with which an array begins.
-use Rattle.std.proofs.Common.{◌≡◌, ℕ, ◌+◌, ◌-◌, ◌<◌, ◌≤◌, ◌^◌, List, [], ◌∷◌, ◌++◌, length, take, drop, Some, refl, ap, sym, ◌∙◌, subst, arith}
-use Rattle.std.specs.Prelude.{decimal}
+use Rattle.std.proofs.Common.{◌≡◌, ℕ, ◌+◌, ◌-◌, List, ◌∷◌, ◌++◌, length, take, drop, Some, ap, ◌∙◌}
 use Rattle.std.proofs.lemmas.List.{take_rest}
-use Rattle.format_resp.specs.Language.{line, is_in_line, IsLength, greatest_count}
+use Rattle.format_resp.specs.Language.{line, IsLength, greatest_count}
 use Rattle.format_resp.specs.Parts.{text_width}
 use Rattle.format_resp.proofs.lemmas.BreakLemmas.{line-before}
 use Rattle.format_resp.proofs.lemmas.PartLemmas.{text-width, line-text, length-in_line}
-use Rattle.format_resp_events.specs.Heads.{BeginsArray, IsArrayHead}
 
 -- what follows the byte of the kind
 pub after-kind : (bytes text after : List ℕ) → bytes ≡ 42 ∷ (line text ++ after)

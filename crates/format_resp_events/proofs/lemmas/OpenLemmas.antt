@@ -1,11 +1,10 @@
 -- The replies that open arrays lack, in the order of a program's vector.
-use Rattle.std.proofs.Common.{◌≡◌, ℕ, suc, ◌+◌, ◌-◌, ◌<◌, Bool, true, false, List, [], ◌∷◌, ◌++◌, length, get_or, set, reverse, refl, ap, sym, ◌∙◌, subst, inl, inr, arith}
-use Rattle.std.specs.Prelude.{◌⊎◌, nat_lt, ◌==◌, Option, None, Some}
+use Rattle.std.proofs.Common.{◌≡◌, ℕ, ◌+◌, ◌-◌, ◌<◌, List, [], ◌∷◌, ◌++◌, length, get_or, set, reverse, refl, ap, sym, ◌∙◌, inl, inr, arith}
+use Rattle.std.specs.Prelude.{◌⊎◌, Option, None, Some}
 use Rattle.std.specs.Option.{option_to_list}
-use Rattle.std.proofs.lemmas.Bool.Decides.{nat_tests}
 use Rattle.std.proofs.lemmas.List.{append-nil, reverse-append, reverse-reverse, length-append}
 use Rattle.std.proofs.Math.Seq.{get_or-append_seam, set-append_seam}
-use Rattle.format_resp_events.specs.OpenArrays.{is_due, after_reply, after_array}
+use Rattle.format_resp_events.specs.OpenArrays.{after_reply, after_array}
 
 -- a list is empty, or ends with a number
 last-cases : (ys xs : List ℕ) → reverse xs ≡ ys
@@ -21,22 +20,6 @@ last-first front y = reverse-append front (y ∷ [])
 -- the place of the last number
 last-place : (front : List ℕ) (y : ℕ) → length (front ++ y ∷ []) - 1 ≡ length front
 last-place front y = omega (arith, length-append front (y ∷ []))
-
--- a reply is due if the last number is not 0
-pub due-last : (xs : List ℕ) → 0 < length xs
-    → is_due (reverse xs) ≡ nat_lt 0 (get_or xs (length xs - 1) 0)
-due-last xs some = elim (last-cases (reverse xs) xs refl) [
-  | inl none ↦ absurd (omega (arith, some, ap length none))
-  | inr (front, (y, e)) ↦
-      ap (λ l. is_due (reverse l)) e ∙ ap is_due (last-first front y)
-      ∙ ap (nat_lt 0) (sym (ap (λ l. get_or l (length l - 1) 0) e
-      ∙ ap (λ n. get_or (front ++ y ∷ []) n 0) (last-place front y) ∙ get_or-append_seam front y [] 0))
-]
-
--- a reply is due if no array is open
-pub due-none : (xs : List ℕ) → length xs ≡ 0 → is_due (reverse xs) ≡ true
-due-none [] e = refl
-due-none (x ∷ xs) e = absurd (cc e)
 
 -- the last number is less by 1 after a reply
 pub reply-last : (xs : List ℕ) → 0 < length xs

@@ -1,13 +1,11 @@
 -- The same bytes have the same events.
-use Rattle.std.proofs.Common.{◌≡◌, ℕ, zero, suc, ◌+◌, ◌<◌, ◌^◌, List, [], ◌∷◌, ◌++◌, length, Some, ℤ, refl, ap, sym, ◌∙◌, subst, inl, inr, arith, append_assoc, length-append}
-use Rattle.std.specs.Prelude.{◌⊎◌, ⊤, decimal, FitsSigned}
-use Rattle.std.specs.Fmt.{signed_decimal}
-use Rattle.std.specs.Int.{w64}
+use Rattle.std.proofs.Common.{◌≡◌, ℕ, zero, suc, ◌+◌, ◌<◌, ◌^◌, List, [], ◌∷◌, ◌++◌, length, Some, ℤ, refl, ap, sym, ◌∙◌, subst, inl, inr, arith, append_assoc}
+use Rattle.std.specs.Prelude.{decimal}
 use Rattle.std.proofs.lemmas.Fmt.{decimal_injective, signed_decimal_injective}
 use Rattle.std.proofs.lemmas.List.{append-nil}
 use Rattle.winnow_reader.specs.SameValues.{AreAlike}
 use Rattle.format_lemmas.proofs.lemmas.ByteLemmas.{heads, tails}
-use Rattle.format_resp.specs.Language.{line, line_end, no_length, AreInLine, IsText, IsInteger, IsLength, greatest_count}
+use Rattle.format_resp.specs.Language.{line, line_end, no_length, AreInLine, IsInteger, IsLength, greatest_count}
 use Rattle.format_resp.proofs.lemmas.BreakLemmas.{line-once}
 use Rattle.format_resp.proofs.lemmas.NumberLemmas.{no-minus, integer-line, length-line}
 use Rattle.format_resp_events.specs.Events.{SameEvent, SpellsRow, SpellsArray, SpellsScalar, SpellsEither, SpellsNothing, SpellsEvents, AreReplies}

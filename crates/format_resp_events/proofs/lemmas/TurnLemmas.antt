@@ -1,24 +1,16 @@
 -- What a reader of events has given after one more answer.
-use Rattle.std.proofs.Common.{◌≡◌, ℕ, zero, suc, ◌+◌, ◌-◌, ◌<◌, ◌≤◌, Bool, true, false, List, [], ◌∷◌, ◌++◌, length, drop, Some, true≢false, refl, ap, sym, ◌∙◌, subst, inl, inr, arith, append_assoc}
-use Rattle.std.specs.Prelude.{◌⊎◌, Result, Ok, Err}
+use Rattle.std.proofs.Common.{◌≡◌, ℕ, ◌+◌, ◌-◌, ◌<◌, ◌≤◌, Bool, true, false, List, [], ◌∷◌, ◌++◌, length, Some, refl, ap, sym, ◌∙◌, subst, arith, append_assoc}
+use Rattle.std.specs.Prelude.{Result, Ok, Err}
 use Rattle.std.proofs.lemmas.List.{append-nil, length-append}
-use Rattle.winnow_reader.specs.State.{ReaderState, pushed, waiting_for, fed_of}
-use Rattle.winnow_reader.specs.Reading.{MayFollow}
-use Rattle.winnow_reader.specs.SameValues.{IsThrough}
-use Rattle.winnow_stream.specs.Source.{units}
-use Rattle.format_resp.specs.Language.{line, IsLength, greatest_count, SpellsLayer, SpellsNone, Spells}
-use Rattle.format_resp.specs.Answers.{IsSettled}
-use Rattle.format_resp.specs.Damage.{HasNoKind, cause_at}
-use Rattle.format_resp.specs.Causes.{IsDamaged}
-use Rattle.format_resp.specs.declared.causes.Cause.{Cause}
-use Rattle.format_resp.specs.declared.causes.Cause.TheVariants.{EndsInside, NoKind}
+use Rattle.winnow_reader.specs.State.{ReaderState, pushed, waiting_for}
+use Rattle.format_resp.specs.Language.{line, IsLength, greatest_count, Spells}
 use Rattle.format_resp.specs.declared.grammar.ReplyTo.{ReplyTo}
 use Rattle.format_resp.specs.declared.reply.Reply.{Reply}
 use Rattle.format_resp.specs.declared.reply.Reply.TheViews.{out-Reply}
 use Rattle.format_resp_events.specs.Events.{first_event}
-use Rattle.format_resp_events.specs.Heads.{Passes, BreaksWithin, WantsMore, IsHead}
-use Rattle.format_resp_events.specs.OpenArrays.{is_due, IsDue, after_reply, after_array, after_head}
-use Rattle.format_resp_events.specs.Reading.{EventState, longest_of, AreBegun, HasGiven, GivesAlso, GivesOn, KeepsLimits, Advances, BreaksAt, next_events, end_answer, IsNext}
+use Rattle.format_resp_events.specs.Heads.{Passes, WantsMore, IsHead}
+use Rattle.format_resp_events.specs.OpenArrays.{is_due, IsDue, after_array, after_head}
+use Rattle.format_resp_events.specs.Reading.{EventState, longest_of, AreBegun, HasGiven, GivesAlso, GivesOn, IsNext}
 use Rattle.format_resp_events.specs.declared.event.ReplyEvent.{ReplyEvent}
 use Rattle.format_resp_events.specs.declared.event.ReplyEvent.TheVariants as event
 use Rattle.format_resp_events.specs.declared.heads.Head.{Head}
@@ -125,82 +117,7 @@ gives-array old replies lacks text n due p is deep same =
     (λ bytes events h. subst (λ l. AreBegun (longest_of old) old.depth l (bytes ++ 42 ∷ line text) (events ++ event.StartArray n ∷ []))
     (sym same) (begun-array (longest_of old) old.depth old.open_arrays bytes text events n due h is (λ some. deep)))
 
--- ---- Limits
-
--- bytes were passed within the same limits
-pub keeps-passed : (old : EventState) (replies : ReaderState ReplyTo) (lacks one : List ℕ)
-    → Passes old.replies one replies → KeepsLimits old (reader_at old replies lacks)
-keeps-passed old replies lacks one p = (ap (λ (r : ReplyTo). r.longest) p.parser, refl, p.ended)
-
--- ---- Going on
-
--- a reader that passed bytes goes on
-pub advances-passed : (old : EventState) (replies : ReaderState ReplyTo) (lacks one : List ℕ)
-    → Passes old.replies one replies → 0 < length one → Advances old (reader_at old replies lacks)
-advances-passed old replies lacks one p some =
-    inl (omega (arith, some, ap length p.whole, length-append one replies.ahead), p.wanted)
-
--- after a reply as many arrays are open
-reply-length : (lacks : List ℕ) → length (after_reply lacks) ≡ length lacks
-reply-length [] = refl
-reply-length (n ∷ lacks) = refl
-
--- a reader that closed an array goes on
-pub advances-end : (old : EventState) (lacks : List ℕ) → is_due old.open_arrays ≡ false
-    → lacks ≡ after_array old.open_arrays → Advances old (reader_at old old.replies lacks)
-advances-end old lacks none same =
-    let k = not-due old.open_arrays none in
-    let now = ap length (same ∙ ap after_array k.1) ∙ reply-length k.0 in
-    inr (refl, omega (arith, now, ap length k.1))
-
--- ---- The end
-
--- nothing is left of nothing
-drop-none : (k : ℕ) → drop {A = ℕ} k [] ≡ []
-drop-none zero = refl
-drop-none (suc k) = refl
-
--- where nothing is left, no reply begins
-none-left : (longest depth k : ℕ) (bytes : List ℕ) → bytes ≡ []
-    → IsDamaged longest depth EndsInside (units bytes) (units (drop k bytes))
-none-left longest depth k bytes e =
-    let none : drop k bytes ≡ [] = ap (drop k) e ∙ drop-none k in
-    inl (
-      ap units (e ∙ sym none),
-      subst (λ l. HasNoKind (units l)) (sym e) tt,
-      ap (λ l. cause_at (units l) NoKind) (sym none),
-    )
-
--- where the input has ended and nothing is left, a reply that is due breaks off
-pub breaks-end : (f : ReaderState ReplyTo) (depth place : ℕ) → IsThrough f → place ≡ fed_of f
-    → BreaksWithin depth f place EndsInside
-breaks-end f depth place (ended, none) at = (
-  omega (arith, at),
-  omega (arith, at),
-  λ more partial may.
-      let both : MayFollow true more partial = subst (λ b. MayFollow b more partial) ended may in (
-        λ yes. absurd (true≢false (sym yes ∙ both.1)),
-        none-left f.parser.longest depth (place - f.place) (f.ahead ++ more) (ap (λ l. l ++ more) none ∙ both.0),
-      ),
-)
-
 -- ---- Answers
-
--- at the end nothing is given
-pub end-none : (lacks : List ℕ) (fed : ℕ) → next_events (end_answer lacks fed) ≡ []
-end-none [] fed = refl
-end-none (n ∷ lacks) fed = refl
-
--- at the end the input is whole, or a reply that is due breaks off
-pub next-end : (old : EventState) (replies : ReaderState ReplyTo) (lacks : List ℕ) (fed : ℕ)
-    → replies ≡ old.replies → lacks ≡ old.open_arrays → IsThrough old.replies
-    → fed ≡ fed_of old.replies → IsNext old (end_answer lacks fed) (reader_at old replies lacks)
-next-end old replies [] fed same e through at =
-    ((through, sym e), ap (λ f. reader_at old f []) same ∙ ap (reader_at old old.replies) e)
-next-end old replies (n ∷ lacks) fed same e through at = (
-  breaks-end old.replies (old.depth - length old.open_arrays) fed through at,
-  ap (λ f. reader_at old f (n ∷ lacks)) same ∙ ap (reader_at old old.replies) e,
-)
 
 -- where no head is, the reply that is due breaks off, or memory was refused
 pub next-failed : (old : EventState) (replies : ReaderState ReplyTo) (lacks : List ℕ) (deep : Bool)
@@ -224,13 +141,6 @@ next-waits old replies lacks due wants same e = (
   wants,
   ap (λ f. reader_at old f lacks) same ∙ ap (reader_at old (waiting_for old.replies replies.wanted)) e,
 )
-
--- where nothing was taken, the limits are the same
-pub keeps-same : (old : EventState) (replies : ReaderState ReplyTo) (lacks : List ℕ)
-    → replies.parser ≡ old.replies.parser → replies.ended ≡ old.replies.ended
-    → KeepsLimits old (reader_at old replies lacks)
-keeps-same old replies lacks parser ended =
-    (ap (λ (r : ReplyTo). r.longest) parser, refl, ended)
 
 -- ---- Heads
 

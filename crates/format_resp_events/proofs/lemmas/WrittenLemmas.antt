@@ -1,11 +1,11 @@
 -- Bytes with events are those that the events stand for.
-use Rattle.std.proofs.Common.{◌≡◌, ℕ, zero, suc, ◌+◌, ◌-◌, List, [], ◌∷◌, ◌++◌, length, Some, refl, ap, sym, ◌∙◌, inl, inr, append_assoc}
-use Rattle.std.specs.Prelude.{◌⊎◌, decimal}
+use Rattle.std.proofs.Common.{◌≡◌, ℕ, zero, suc, ◌+◌, ◌-◌, List, [], ◌∷◌, ◌++◌, length, ap, sym, ◌∙◌, inl, inr}
+use Rattle.std.specs.Prelude.{decimal}
 use Rattle.std.proofs.lemmas.List.{append-nil}
 use Rattle.std.proofs.lemmas.List.Concat.{flat_map-append}
-use Rattle.format_resp.specs.Language.{line, IsLength, greatest_count}
-use Rattle.format_resp_events.specs.Events.{SpellsRow, SpellsArray, SpellsScalar, SpellsEither, SpellsNothing, SpellsEvents, SpellsInside}
-use Rattle.format_resp_events.specs.Reading.{SpellsBegun, AreBegun}
+use Rattle.format_resp.specs.Language.{line}
+use Rattle.format_resp_events.specs.Events.{SpellsRow, SpellsScalar, SpellsEither, SpellsNothing, SpellsEvents, SpellsInside}
+use Rattle.format_resp_events.specs.Reading.{AreBegun}
 use Rattle.format_resp_events.specs.Written.{event_written, events_written}
 use Rattle.format_resp_events.specs.declared.event.ReplyEvent.{ReplyEvent}
 use Rattle.format_resp_events.specs.declared.event.ReplyEvent.TheVariants as event

@@ -1,4 +1,4 @@
-use Rattle.std.proofs.Common.{◌≡◌, ◌+◌, ◌-◌, ◌≤◌, length, take, drop, ap, sym, ◌∙◌, arith}
+use Rattle.std.proofs.Common.{◌+◌, ◌-◌, ◌≤◌, length, take, drop, ap, sym, ◌∙◌, arith}
 use Rattle.format_resp.specs.Language.{greatest_count}
 use Rattle.format_resp_events.proofs.lemmas.LineLemmas.{after-kind, line-width, line-front}
 use Rattle.format_resp_events.proofs.heads.array_head.Goals as goal

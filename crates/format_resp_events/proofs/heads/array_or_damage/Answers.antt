@@ -1,4 +1,4 @@
-use Rattle.std.proofs.Common.{◌≡◌, ◌∷◌, ap, sym, ◌∙◌, subst, refl}
+use Rattle.std.proofs.Common.{◌∷◌, ap, sym, ◌∙◌, subst, refl}
 use Rattle.winnow_reader.specs.Skips.{skipped}
 use Rattle.format_resp.specs.Language.{line}
 use Rattle.format_resp_events.specs.Heads.{BeginsArray, Passes, BreaksWithin}

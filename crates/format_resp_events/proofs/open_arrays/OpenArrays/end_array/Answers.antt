@@ -1,4 +1,4 @@
-use Rattle.std.proofs.Common.{◌≡◌, ◌+◌, vec_len, None, sym, ◌∙◌, subst}
+use Rattle.std.proofs.Common.{◌≡◌, ◌+◌, vec_len, sym, ◌∙◌, subst}
 use Rattle.std.specs.Prelude.{MatchOption}
 use Rattle.format_resp_events.proofs.lemmas.OpenLemmas.{array-last}
 use Rattle.format_resp_events.proofs.open_arrays.OpenArrays.end_array.Goals as goal

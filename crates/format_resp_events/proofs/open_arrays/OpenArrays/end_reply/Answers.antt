@@ -1,4 +1,4 @@
-use Rattle.std.proofs.Common.{◌≡◌, ◌-◌, ◌<◌, length, get_or, slice_set, reverse, refl, ap, ◌∙◌, sym, subst, arith}
+use Rattle.std.proofs.Common.{◌≡◌, ◌-◌, ◌<◌, length, get_or, slice_set, reverse, ap, ◌∙◌, subst, arith}
 use Rattle.std.proofs.lemmas.Grind.{get_or_default_zero}
 use Rattle.format_resp_events.proofs.lemmas.OpenLemmas.{reply-last, reply-none}
 use Rattle.format_resp_events.proofs.open_arrays.OpenArrays.end_reply.Goals as goal
