@@ -1,8 +1,8 @@
 //! Times the readers of the C library through its Rust crate, beside serde_json and csv, on the files `json` and `csv` of a folder.
 //!
-//!     woldbraid-peers FOLDER
+//!     woldbraid-peers FOLDER [FORMAT WAY]
 //!
-//! What two readers of a file read is compared first, each byte. A row has the least time of 15 turns, and the part of the last of its format.
+//! With a format and the number of a way it reads one file once, in that way, so that a profiler counts that alone. Else, what two readers of a file read is compared first, each byte. A row has the least time of 15 turns, and the part of the last of its format.
 
 use serde::de::{DeserializeSeed, Deserializer, IgnoredAny, MapAccess, SeqAccess, Visitor};
 use std::hint::black_box;
@@ -193,8 +193,16 @@ fn fill_records(input: &[u8], sum: &mut Sum) {
     }
 }
 
-// Prints a row for each way, of which the first `same` read the same.
+// Prints a row for each way, of which the first `same` read the same; or reads once, in the way that is asked for.
 fn race(format: &str, input: &[u8], same: usize, ways: &[(&str, Read)]) {
+    if let Some(asked) = env::args().nth(2) {
+        let way: usize = env::args().nth(3).expect("the number of a way").parse().expect("a number");
+        if asked == format {
+            ways[way].1(input, &mut Sum { each_byte: false, sum: 0 });
+            println!("{}", ways[way].0);
+        }
+        return;
+    }
     let read = |way: usize, each_byte| {
         let mut sum = Sum { each_byte, sum: 0 };
         ways[way].1(black_box(input), &mut sum);
