@@ -4,8 +4,8 @@
 use crate::value_tests::value_test_law;
 use winnow_ascii::{Fragment, ascii_law, determined_escaped_law, determined_number_law};
 use winnow_binary::{
-    Numeral, bit_fields_law, determined_bit_fields_law, determined_length_law,
-    determined_slice_read_law, fixed_number_law,
+    Numeral, binary_number_law, bit_fields_law, determined_bit_fields_law, determined_length_law,
+    determined_slice_read_law,
 };
 use winnow_combinator::{
     Accumulated, Gather, alternative_errors_law, alternatives_law, determined_choice_law,
@@ -136,10 +136,10 @@ fn laws_of_parts_are_called(_rt: HostRuntime) {
 
 #[test]
 fn laws_of_numbers_are_called(_rt: HostRuntime) {
-    fixed_number_law::<u16>();
-    fixed_number_law::<i64>();
-    fixed_number_law::<u128>();
-    fixed_number_law::<f64>();
+    binary_number_law::<u16>();
+    binary_number_law::<i64>();
+    binary_number_law::<u128>();
+    binary_number_law::<f64>();
     determined_length_law::<Bytes, EmptyError, Numeral<u16>, Numeral<u8>, Vec<u8>, usize, u8, u8>();
     determined_slice_read_law::<Bytes, EmptyError, Numeral<u16>, Take, usize>();
 }

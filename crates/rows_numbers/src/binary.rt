@@ -5,8 +5,8 @@ use rows_fronts::{Fronts, Row, ask};
 use std::alloc::Global;
 use std::fmt::Debug;
 use winnow_binary::{
-    Endianness, FixedNumber, Numeral, be_i16, be_i32, be_i64, be_u16, be_u32, be_u64, i8, i16, i32,
-    i64, le_i16, le_i32, le_i64, le_u16, le_u32, le_u64, length_and_then, length_repeat,
+    BinaryNumber, Endianness, Numeral, be_i16, be_i32, be_i64, be_u16, be_u32, be_u64, i8, i16,
+    i32, i64, le_i16, le_i32, le_i64, le_u16, le_u32, le_u64, length_and_then, length_repeat,
     length_take, u8, u16, u32, u64,
 };
 use winnow_match::Compare;
@@ -14,7 +14,7 @@ use winnow_stream::Stream;
 use winnow_token::literal;
 
 // Answers the parser of a number, if there is one.
-fn number<I: Fronts + Stream<Token = u8>, N: FixedNumber + Debug + Drop>(
+fn number<I: Fronts + Stream<Token = u8>, N: BinaryNumber + Debug + Drop>(
     alloc: Global,
     parser: Numeral<N>,
     row: &Row<I::Whole>,

@@ -4,7 +4,7 @@ pub mod laws;
 
 pub use winnow_base::binary::bits;
 pub use winnow_binary::{
-    BitFields, Endianness, FixedNumber, Length, LengthAndThen, LengthRepeat, LengthTake, Numeral,
+    BinaryNumber, BitFields, Endianness, Length, LengthAndThen, LengthRepeat, LengthTake, Numeral,
     SixteenByteNumber, SixteenByteNumeral, ThreeByteNumber, ThreeByteNumeral, Width, be_bit_fields,
     be_f32, be_f64, be_i8, be_i16, be_i24, be_i32, be_i64, be_i128, be_u8, be_u16, be_u24, be_u32,
     be_u64, be_u128, bit_fields, f32, f64, i8, i16, i24, i32, i64, i128, le_bit_fields, le_f32,

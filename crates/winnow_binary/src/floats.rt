@@ -5,10 +5,10 @@ ghost use Rattle.std.specs.Float.{binary32, binary64};
 ghost use Rattle.winnow_binary.specs.declared.endianness.Endianness.TheVariants.{Big, Little};
 ghost use Rattle.winnow_binary.specs.declared.endianness.Width.TheVariants.{Four, Eight};
 
-use crate::{Endianness, FixedNumber, Numeral, Width};
+use crate::{BinaryNumber, Endianness, Numeral, Width};
 use std::num::{f32_from_bits_with_nan, f64_from_bits_with_nan};
 
-impl FixedNumber for f32 {
+impl BinaryNumber for f32 {
     ghost width = { Four };
 
     ghost value_of = { λ n. from_bits binary32 n };
@@ -22,7 +22,7 @@ impl FixedNumber for f32 {
     }
 }
 
-impl FixedNumber for f64 {
+impl BinaryNumber for f64 {
     ghost width = { Eight };
 
     ghost value_of = { λ n. from_bits binary64 n };

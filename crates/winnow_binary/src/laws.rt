@@ -20,7 +20,7 @@ use winnow_stream::StreamIsPartial;
 /// Where it needs k more bytes, its answer is not settled before k have come. Bytes read with the
 /// most significant one first are the number that the reversed bytes are with the least significant
 /// one first. It does nothing when called: its contract is the law.
-pub fn fixed_number_law<N>()
+pub fn binary_number_law<N>()
     ensures determined { (counts_shortage : Bool) (width : ℕ) (value_of : ℕ → N)
         (order : Endianness)
         → IsDetermined (λ x y. x ≡ y) (FixedNumeral counts_shortage width value_of order) }

@@ -2,11 +2,11 @@
 //! fill whole bytes together, and parts that a count comes before.
 #![tactic(auto, using(winnow_parser::proofs::lemmas::OnwardLemmas::onward_steps))]
 
+mod binary_number;
 mod bit_laws;
 mod bit_number;
 mod bit_widths;
 mod endianness;
-mod fixed_number;
 mod floats;
 mod laws;
 mod length;
@@ -16,11 +16,11 @@ mod parsers;
 mod sixteen_bytes;
 mod three_bytes;
 
+pub use binary_number::BinaryNumber;
 pub use bit_laws::{bit_fields_law, determined_bit_fields_law};
 pub use endianness::{Endianness, Width};
-pub use fixed_number::FixedNumber;
 pub use floats::{be_f32, be_f64, f32, f64, le_f32, le_f64};
-pub use laws::{determined_length_law, determined_slice_read_law, fixed_number_law};
+pub use laws::{binary_number_law, determined_length_law, determined_slice_read_law};
 pub use length::Length;
 pub use numbers::{
     Numeral, be_i8, be_i16, be_i32, be_i64, be_u8, be_u16, be_u32, be_u64, i8, i16, i32, i64,

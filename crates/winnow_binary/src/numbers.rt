@@ -6,7 +6,7 @@ ghost use Rattle.winnow_binary.specs.declared.endianness.Endianness.TheVariants.
 ghost use Rattle.winnow_binary.specs.Numerals.{bytes_in, FixedNumeral, IsParser-FixedNumeral};
 
 use crate::next_number::next_number;
-use crate::{Endianness, FixedNumber};
+use crate::{BinaryNumber, Endianness};
 use std::alloc::Global;
 use std::marker::PhantomData;
 use winnow_error::ParserError;
@@ -33,7 +33,7 @@ impl<R> Numeral<R> {
     }
 }
 
-impl<I: StreamIsPartial<Token = u8>, E: ParserError<I>, R: FixedNumber> Parser<I, E>
+impl<I: StreamIsPartial<Token = u8>, E: ParserError<I>, R: BinaryNumber> Parser<I, E>
     for Numeral<R> {
     type Output = R;
 

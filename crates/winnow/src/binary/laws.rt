@@ -2,6 +2,6 @@
 //! law.
 
 pub use winnow_binary::{
-    bit_fields_law, determined_bit_fields_law, determined_length_law, determined_slice_read_law,
-    fixed_number_law,
+    binary_number_law, bit_fields_law, determined_bit_fields_law, determined_length_law,
+    determined_slice_read_law,
 };

@@ -1,4 +1,4 @@
-//! The types of numbers that a fixed number of bytes writes: `FixedNumber`.
+//! The types of numbers that a fixed number of bytes writes: `BinaryNumber`.
 
 ghost use Rattle.std.specs.Prelude.{◌≡◌, ◌<◌, ◌^◌, ℕ};
 ghost use Rattle.std.specs.Int.{w8, w16, w32, w64, cast_signed};
@@ -9,7 +9,7 @@ ghost use Rattle.winnow_binary.specs.Numerals.{bytes_in};
 use crate::Width;
 
 /// A type of numbers that a fixed number of bytes writes.
-pub trait FixedNumber: Sized {
+pub trait BinaryNumber: Sized {
     // The number of bytes.
     ghost width: { Width };
 
@@ -27,7 +27,7 @@ pub trait FixedNumber: Sized {
         ensures { result ≡ value_of number };
 }
 
-impl FixedNumber for u8 {
+impl BinaryNumber for u8 {
     ghost width = { One };
 
     ghost value_of = { λ n. n };
@@ -41,7 +41,7 @@ impl FixedNumber for u8 {
     }
 }
 
-impl FixedNumber for u16 {
+impl BinaryNumber for u16 {
     ghost width = { Two };
 
     ghost value_of = { λ n. n };
@@ -55,7 +55,7 @@ impl FixedNumber for u16 {
     }
 }
 
-impl FixedNumber for u32 {
+impl BinaryNumber for u32 {
     ghost width = { Four };
 
     ghost value_of = { λ n. n };
@@ -69,7 +69,7 @@ impl FixedNumber for u32 {
     }
 }
 
-impl FixedNumber for u64 {
+impl BinaryNumber for u64 {
     ghost width = { Eight };
 
     ghost value_of = { λ n. n };
@@ -83,7 +83,7 @@ impl FixedNumber for u64 {
     }
 }
 
-impl FixedNumber for i8 {
+impl BinaryNumber for i8 {
     ghost width = { One };
 
     ghost value_of = { λ n. cast_signed w8 n };
@@ -97,7 +97,7 @@ impl FixedNumber for i8 {
     }
 }
 
-impl FixedNumber for i16 {
+impl BinaryNumber for i16 {
     ghost width = { Two };
 
     ghost value_of = { λ n. cast_signed w16 n };
@@ -111,7 +111,7 @@ impl FixedNumber for i16 {
     }
 }
 
-impl FixedNumber for i32 {
+impl BinaryNumber for i32 {
     ghost width = { Four };
 
     ghost value_of = { λ n. cast_signed w32 n };
@@ -125,7 +125,7 @@ impl FixedNumber for i32 {
     }
 }
 
-impl FixedNumber for i64 {
+impl BinaryNumber for i64 {
     ghost width = { Eight };
 
     ghost value_of = { λ n. cast_signed w64 n };

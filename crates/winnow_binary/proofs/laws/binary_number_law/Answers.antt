@@ -1,5 +1,5 @@
 use Rattle.winnow_binary.proofs.lemmas.NumberLemmas.{most_first-reversed, determined-numeral, prompt-numeral}
-use Rattle.winnow_binary.proofs.laws.fixed_number_law.Goals as goal
+use Rattle.winnow_binary.proofs.laws.binary_number_law.Goals as goal
 
 pub returns-clause-determined : goal.returns-clause-determined
 returns-clause-determined g c = λ counts_shortage width value_of order. determined-numeral counts_shortage width value_of order
