@@ -1,5 +1,6 @@
 pub mod TakingLemmas
 pub mod BlankLemmas
+pub mod DroppedLemmas
 pub mod NextTokenLemmas
 pub mod WaitLemmas
 pub mod AheadLemmas

@@ -1,7 +1,7 @@
 -- The events that a reader has given of the joined input.
 use Rattle.std.specs.Prelude.{◌≡◌, ℕ, ◌+◌, ◌-◌, ◌<◌, true, false, not, List, [], ◌∷◌, ◌++◌, length, drop, get_or, Option, Some, None, Result, Ok, Err, ◌⊎◌, ⊤}
-use Rattle.winnow.specs.State.{ReaderState, at_start, pushed, unspent, ended_after, waiting_for, fed_of}
-use Rattle.winnow.specs.Reading.{HasRead, Lacks}
+use Rattle.winnow.specs.State.{ReaderState, at_start, pushed, unspent, ended_after, fed_of}
+use Rattle.winnow.specs.Reading.{Lacks}
 use Rattle.winnow.specs.SameValues.{IsThrough}
 use Rattle.winnow_reader.specs.declared.next.Next.{Next}
 use Rattle.winnow_reader.specs.declared.next.Next.TheVariants as next
@@ -10,6 +10,7 @@ use Rattle.format_json.specs.Tokens.{TokenAhead}
 use Rattle.format_json.specs.TokenAnswers.{OneToken}
 use Rattle.format_json.specs.Reading.{FindsDamage}
 use Rattle.format_json.specs.Causes.{cause_of, IsCut}
+use Rattle.format_json_events.specs.Blanks.{HasTaken, TakesThrough, TakesAlso, WaitsOn}
 use Rattle.format_json_events.specs.Turns.{TextState, at_begin, bar_from, turn_at, turn_events, after_turn}
 use Rattle.format_json.specs.declared.tokens.Token.{Token}
 use Rattle.format_json.specs.declared.tokens.Token.TheVariants as token
@@ -78,7 +79,7 @@ events_ended r = record r { tokens = ended_after r.tokens }
 pub record HasGiven (r : EventState) (input : List ℕ) (events : List Event) : Type 0 where
   pub taken : List Token
   pub others : List Token
-  pub read : HasRead (λ p. OneToken) r.tokens input (taken ++ others)
+  pub read : HasTaken r.tokens input (taken ++ others)
   pub going : r.stopped ≡ None → others ≡ []
   pub takes : Takes (at_begin r.text.depth) taken events r.text
 
@@ -102,8 +103,7 @@ KeepsLimits old new =
 -- the bytes ahead of the one reader begin with the token, and once it is read the reader is the
 -- other
 pub record Brings (old : ReaderState JsonToken) (token : Token) (new : ReaderState JsonToken) : Type 0 where
-  pub read : (input : List ℕ) (tokens : List Token) → HasRead (λ p. OneToken) old input tokens
-      → HasRead (λ p. OneToken) new input (tokens ++ token ∷ [])
+  pub read : TakesAlso old token new
   pub stands : TokenAhead (not old.ended) token old.ahead new.ahead
   pub fewer : length new.ahead < length old.ahead
   pub ended : new.ended ≡ old.ended
@@ -148,16 +148,16 @@ BringsEnd old new = IsThrough new × (Brings old token.End new ⊎ (new ≡ old)
 -- the input goes on, and the record of the next token asked for more than came since
 abbrev pub Awaits : ReaderState JsonToken → Type 0
 Awaits f = (f.ended ≡ false)
-    × ((input : List ℕ) (tokens : List Token) → HasRead (λ p. OneToken) f input tokens → Lacks (λ p. OneToken) f)
+    × ((input : List ℕ) (tokens : List Token) → HasTaken f input tokens → Lacks (λ p. OneToken) f)
 
--- where the text stands: the next token, or the end; or it is awaited; or none stands there, and
--- nothing changes
+-- where the text stands: the next token, or the end; or it is awaited, and the blanks ahead were
+-- dropped; or none stands there, and nothing changes
 abbrev pub IsComing : TextState → ReaderState JsonToken → Result Coming EventError
     → ReaderState JsonToken → Type 0
 IsComing text old (Ok (coming.Token t)) new = Brings old t new
 IsComing text old (Ok coming.End) new = BringsEnd old new
-IsComing text old (Ok coming.NeedsMore) new = (new ≡ waiting_for old new.wanted) × Awaits old
-    × ((input : List ℕ) (tokens : List Token) → HasRead (λ p. OneToken) old input tokens → HasRead (λ p. OneToken) new input tokens)
+IsComing text old (Ok coming.NeedsMore) new =
+    WaitsOn old new × Awaits old × TakesThrough old new
 IsComing text old (Err e) new = (new ≡ old) × IsNoNext text old e
 
 -- ---- Answers
@@ -191,9 +191,9 @@ next_events (Err e) = []
 abbrev pub IsWhole : EventState → Type 0
 IsWhole r = IsThrough r.tokens × (r.text.expected ≡ expect.End)
 
--- the text stands as before, and no token was taken
+-- the text stands as before, and no token was taken: the blanks ahead were dropped
 abbrev pub StaysAt : EventState → EventState → Type 0
-StaysAt old new = (new.text ≡ old.text) × (new.tokens ≡ waiting_for old.tokens new.tokens.wanted)
+StaysAt old new = (new.text ≡ old.text) × WaitsOn old.tokens new.tokens
 
 -- the one reader is at a token, or at the end, that may not come next: so the error says, with the
 -- place at which it begins

@@ -5,14 +5,15 @@ ghost use Rattle.format_json.specs.Reading.{FindsDamage};
 ghost use Rattle.format_json_events.specs.Turns.{state_of};
 ghost use Rattle.format_json_events.specs.Reading.{IsComing, IsNoNext, error_at};
 
+use crate::blanks::{drop_blanks, token_start};
 use crate::syntax::{Syntax, Taken};
-use crate::token_reader::TokenReader;
 use crate::turns::Misplaced;
-use format_json::{Cause, Number, Token, blank_count, cause_of, is_cut};
+use format_json::{Cause, JsonToken, Number, Token, blank_count, cause_of, is_cut};
 use format_json_scalars::byte_or;
 use std::alloc::{AllocError, Global};
 use std::marker::Model;
 use winnow::reader::{Next, ReadError};
+use winnow::scan::ScanReader;
 
 /// What a text has next.
 #[derive(Debug, Drop)]
@@ -98,7 +99,8 @@ enum Step {
 /// The text is one value, with blanks around it and nothing else, and each value in it stands
 /// within at most `depth` arrays and objects: the texts that
 /// [`read_document`](format_json::read_document) reads. The reader keeps the longest token, one
-/// piece, and a byte for each array and object that is open.
+/// piece, and a byte for each array and object that is open. Where it needs more it drops the
+/// blanks ahead, so a run of blanks of any length is kept at most up to the end of its piece.
 ///
 /// A token that may not come next is refused once all its bytes are there, or are damaged, or the
 /// input has ended: until then the reader needs more.
@@ -112,7 +114,7 @@ enum Step {
 /// ```
 #[derive(Drop)]
 pub struct EventReader {
-    tokens: TokenReader,
+    tokens: ScanReader<JsonToken>,
     syntax: Syntax,
     // The error after which no token is read
     stopped: Option<EventError>,
@@ -150,14 +152,14 @@ impl EventReader {
         ensures read { HasGiven result [] [] }
     {
         EventReader {
-            tokens: TokenReader::new(alloc),
+            tokens: ScanReader::new(alloc, JsonToken),
             syntax: Syntax::new(alloc, depth),
             stopped: None,
         }
     }
 
-    /// Appends a piece to what is ahead, and drops what tokens took. When memory is refused,
-    /// nothing else has changed, and the same piece may be pushed again.
+    /// Appends a piece to what is ahead, and frees what tokens took and dropped blanks. When memory
+    /// is refused, nothing else has changed, and the same piece may be pushed again.
     pub fn push(&mut self, piece: &[u8]) -> Result<(), AllocError>
         requires goes_on { self.old.tokens.ended ≡ false }
         requires fits { fed_of self.old.tokens + length piece.now < 2 ^ 64 }
@@ -180,7 +182,8 @@ impl EventReader {
     /// Reads the next event.
     ///
     /// After an error that names a place the reader stays as it is, and each call gives that error
-    /// again. Where more is needed or memory was refused, the call may be made again.
+    /// again. Where more is needed or memory was refused, the call may be made again. Where more is
+    /// needed, the blanks ahead are dropped.
     pub fn next_event(&mut self) -> Result<Next<Event>, EventError>
         ensures read { GivesOn self.old (next_events result) self.new }
         ensures keeps { KeepsLimits self.old self.new }
@@ -214,7 +217,7 @@ impl EventReader {
         if let Err(refused) = self.syntax.make_room() {
             return Err(EventError::Refused(refused));
         }
-        let start = self.tokens.token_start();
+        let start = token_start(&self.tokens);
         match next_token(&mut self.tokens, &self.syntax) {
             Ok(Coming::Token(token)) => match self.syntax.take(token) {
                 Ok(taken) => Ok(Step::Took(taken)),
@@ -249,16 +252,16 @@ impl EventReader {
         self.tokens.fed()
     }
 
-    /// Returns how many bytes are kept: those ahead, and those that tokens took since the last
-    /// piece.
+    /// Returns how many bytes are kept: those ahead, and those that tokens took, or that were
+    /// dropped, since the last piece.
     pub fn held(&self) -> usize
         ensures { result ≡ bytes_kept self.now.tokens }
     {
         self.tokens.held()
     }
 
-    /// Returns how many bytes of the joined input tokens took: the next token, or blanks before it,
-    /// begins there.
+    /// Returns how many bytes of the joined input tokens took, and the blanks that were dropped
+    /// after them: the next token, or blanks before it, begins there.
     pub fn place(&self) -> usize
         ensures { result ≡ self.now.tokens.place }
     {
@@ -281,13 +284,16 @@ impl EventReader {
 }
 
 // Reads the next token, if its bytes are there.
-fn next_token(tokens: &mut TokenReader, syntax: &Syntax) -> Result<Coming, EventError>
+fn next_token(tokens: &mut ScanReader<JsonToken>, syntax: &Syntax) -> Result<Coming, EventError>
     ensures { IsComing (state_of syntax.now) tokens.old result tokens.new }
 {
     match tokens.read_next() {
         Ok(Next::Value(Token::End)) => Ok(Coming::End),
         Ok(Next::Value(token)) => Ok(Coming::Token(token)),
-        Ok(Next::NeedsMore) => Ok(Coming::NeedsMore),
+        Ok(Next::NeedsMore) => {
+            drop_blanks(tokens);
+            Ok(Coming::NeedsMore)
+        }
         Ok(Next::Done) => Ok(Coming::End),
         Err(
             ReadError::Failed {
@@ -303,14 +309,14 @@ fn next_token(tokens: &mut TokenReader, syntax: &Syntax) -> Result<Coming, Event
 
 // Returns the error of a token that is damaged at the place: it may not come next; or it is cut off
 // by the end of the input; or no bytes make it whole.
-fn damage_at(tokens: &TokenReader, syntax: &Syntax, place: usize) -> EventError
+fn damage_at(tokens: &ScanReader<JsonToken>, syntax: &Syntax, place: usize) -> EventError
     requires { FindsDamage tokens.now place }
     ensures { IsNoNext (state_of syntax.now) tokens.now result }
 {
     let ahead = tokens.ahead();
     let here = &ahead[blank_count(ahead)..];
     if let Some(misplaced) = syntax.bar_from(byte_or(here, 0, 0)) {
-        return error_at(misplaced, tokens.token_start());
+        return error_at(misplaced, token_start(tokens));
     }
     let rest = &ahead[place - tokens.place()..];
     if tokens.has_ended() && is_cut(here, rest) {

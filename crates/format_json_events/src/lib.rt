@@ -7,13 +7,14 @@
 //! [`stops_law`] says.
 //!
 //! `turns` says what each token does if it comes next, and `syntax` keeps which brackets are open.
-//! The tokens are those of a `ScanReader` of `format_json::JsonToken`.
+//! The tokens are those of a `ScanReader` of `format_json::JsonToken`, and `blanks` drops what
+//! blanks are before one.
 #![tactic(auto)]
 
+mod blanks;
 mod event_reader;
 mod laws;
 mod syntax;
-mod token_reader;
 mod turns;
 
 pub use event_reader::{Event, EventError, EventReader};

@@ -3,12 +3,11 @@ use Rattle.std.proofs.Common.{◌≡◌, ℕ, false, List, [], ◌∷◌, ◌++�
 use Rattle.std.specs.Prelude.{min, Result, Ok, Err}
 use Rattle.winnow_reader.specs.declared.next.Next.{Next}
 use Rattle.winnow_reader.specs.declared.next.Next.TheVariants as next
-use Rattle.winnow.specs.State.{ReaderState}
-use Rattle.format_json.specs.declared.reading.JsonToken.{JsonToken}
 use Rattle.format_json_events.specs.Reading.{EventState, HasGiven, GivesOn, KeepsLimits, StaysAt, Awaits, IsNext}
 use Rattle.format_json_events.specs.declared.event_reader.Event.{Event}
 use Rattle.format_json_events.specs.declared.event_reader.EventError.{EventError}
 use Rattle.format_json_events.specs.declared.event_reader.EventError.TheVariants as error
+use Rattle.format_json_events.proofs.lemmas.WaitLemmas.{waits-ended}
 use Rattle.example_json.specs.Lines.{line_of, level_after, level_by, lines_at}
 use Rattle.example_json.specs.Taking.{PrintsOn, StopsAfter, IsTaken}
 use Rattle.example_json.proofs.lemmas.LineLemmas.{level-append, lines-append}
@@ -80,7 +79,7 @@ prints-event old new level there text now event gives leads wrote input before g
 pub waits-open : (old new : EventState) → StaysAt old new → Awaits old.tokens
     → new.tokens.ended ≡ false
 waits-open old new stays awaits =
-    ap (λ (f : ReaderState JsonToken). f.ended) stays.1 ∙ awaits.0
+    waits-ended old.tokens new.tokens stays.1 ∙ awaits.0
 
 -- a reader that stops, after tokens that have no event
 stops-after : (old new : EventState) (level : ℕ) (text : List ℕ) (e : EventError)

@@ -2,13 +2,14 @@
 use Rattle.std.proofs.Common.{◌≡◌, ℕ, true, false, List, [], ◌∷◌, ◌++◌, drop, Some, None, ◌⊎◌, inl, inr, ap, sym, ◌∙◌, subst, refl, append-nil}
 use Rattle.std.specs.Prelude.{Ok, Err}
 use Rattle.winnow.specs.State.{ReaderState}
-use Rattle.winnow.specs.Reading.{MayFollow, HasRead, Lacks}
+use Rattle.winnow.specs.Reading.{MayFollow, Lacks}
 use Rattle.winnow_reader.specs.declared.next.Next.TheVariants.{NeedsMore}
 use Rattle.format_json.specs.Language.{after_blanks}
 use Rattle.format_json.specs.Documents.{IsDocument, IsDamage}
-use Rattle.format_json.specs.Tokens.{TokenAhead}
+use Rattle.format_json.specs.Tokens.{TokenHere}
 use Rattle.format_json.specs.TokenAnswers.{OneToken}
 use Rattle.format_json.specs.Reading.{AreTokens, FindsDamage}
+use Rattle.format_json_events.specs.Blanks.{HasTaken}
 use Rattle.format_json_events.specs.Turns.{TextState, at_begin, turn_at}
 use Rattle.format_json_events.specs.Reading.{IsAllowed, Takes, EventState, HasGiven, GivesOn, KeepsLimits, Brings, BringsEnd, IsNoNext, IsMisplaced, IsWhole, IsNext}
 use Rattle.format_json_events.specs.ValueEvents.{events_of, ReadsValue, AreFirstOf, AreAllOf, IsRefusal}
@@ -21,7 +22,8 @@ use Rattle.format_json_events.specs.declared.event_reader.EventError.{EventError
 use Rattle.format_json_events.specs.declared.event_reader.EventError.TheVariants as error
 use Rattle.format_json.specs.declared.value.Value.{Value}
 use Rattle.format_json.proofs.lemmas.JsonTokenLemmas.{damage-none}
-use Rattle.format_json.proofs.lemmas.TokenReadingLemmas.{read-tokens}
+use Rattle.format_json_events.proofs.lemmas.DroppedLemmas.{taken-tokens, taken-after}
+use Rattle.format_json_events.proofs.lemmas.WaitLemmas.{waits-ended, waits-lacks}
 use Rattle.format_json_events.proofs.lemmas.StopLemmas.{stops-none}
 use Rattle.format_json_events.proofs.lemmas.BrokenTurnLemmas.{text-broken}
 use Rattle.format_json_events.proofs.lemmas.LeadingLemmas.{Follows, document-leads, goes-on, one-stands, none-left, tokens-follow}
@@ -40,20 +42,25 @@ split-tokens (t ∷ ts) us b r (a, (h, more)) =
 record Led (f : ReaderState JsonToken) (more : List ℕ) (others : List Token) (t : TextState) (events all : List Event) : Type 0 where
   place : List ℕ
   follows : Follows t place events all
-  stand : AreTokens false others place (f.ahead ++ more)
+  left : List ℕ
+  stand : AreTokens false others place left
+  same : after_blanks left ≡ after_blanks (f.ahead ++ more)
 
 -- a reader of a text that is a value did
 tokens-led : (f : ReaderState JsonToken) (depth : ℕ) (input more : List ℕ) (value : Value)
     → IsDocument depth (input ++ more) value → MayFollow f.ended more false
     → (taken others : List Token) (events : List Event) (t : TextState)
-    → HasRead (λ p. OneToken) f input (taken ++ others) → Takes (at_begin depth) taken events t
+    → HasTaken f input (taken ++ others) → Takes (at_begin depth) taken events t
     → Led f more others t events (events_of value)
 tokens-led f depth input more value is may taken others events t read takes =
-    let cut = split-tokens taken others (input ++ more) (f.ahead ++ more) (read-tokens f input (taken ++ others) read more may) in
+    let left = read.blanks ++ (f.ahead ++ more) in
+    let cut = split-tokens taken others (input ++ more) left (taken-tokens f input (taken ++ others) read more may) in
     record {
       place = cut.0;
       follows = tokens-follow taken (at_begin depth) t (input ++ more) cut.0 events (events_of value) cut.1.0 takes (document-leads depth (input ++ more) value is);
+      left = left;
       stand = cut.1.1;
+      same = taken-after f input (taken ++ others) read more;
     }
 
 -- ---- A reader of a value
@@ -90,9 +97,10 @@ module _ (r : EventState) (input : List ℕ) (events : List Event) (value : Valu
     no-damage : (place : ℕ) → ¬ (FindsDamage r.tokens place)
     no-damage place (rest, (at, wrong)) =
         let l = value-led in
-        let stand = subst (λ us. AreTokens false us l.place (r.tokens.ahead ++ h.more)) (h.given.going going) l.stand in
+        let stand = subst (λ us. AreTokens false us l.place l.left) (h.given.going going) l.stand in
         let one = one-stands r.text l.place l.follows.left l.follows.leads in
-        damage-none false (after_blanks (r.tokens.ahead ++ h.more)) one.0 one.1.0 (rest ++ h.more) (wrong h.more h.may) (subst (λ b. TokenAhead false one.0 b one.1.0) stand one.1.1)
+        damage-none false (after_blanks (r.tokens.ahead ++ h.more)) one.0 one.1.0 (rest ++ h.more) (wrong h.more h.may)
+        (subst (λ b. TokenHere false one.0 b one.1.0) (ap after_blanks stand ∙ l.same) one.1.1)
 
     -- so the reader fails for want of memory alone
     undamaged : (e : EventError) → IsNoNext r.text r.tokens e → IsRefusal e
@@ -107,7 +115,7 @@ module _ (r : EventState) (input : List ℕ) (events : List Event) (value : Valu
         → IsAllowed (turn_at r.text t)
     brought-allowed f t b =
         let taken = h.given.taken in
-        let read = subst (λ us. HasRead (λ p. OneToken) f input (us ++ t ∷ [])) (ap (λ us. taken ++ us) (h.given.going going) ∙ append-nil taken) (b.read input (taken ++ h.given.others) h.given.read) in
+        let read = subst (λ us. HasTaken f input (us ++ t ∷ [])) (ap (λ us. taken ++ us) (h.given.going going) ∙ append-nil taken) (b.read input (taken ++ h.given.others) h.given.read) in
         let may = subst (λ e. MayFollow e h.more false) (sym b.ended) h.may in
         let l = tokens-led f r.text.depth input h.more value h.whole may taken (t ∷ []) events r.text read h.given.takes in
         (goes-on r.text l.place l.follows.left l.follows.leads t l.stand.0 l.stand.1.0).allowed
@@ -122,9 +130,9 @@ module _ (r : EventState) (input : List ℕ) (events : List Event) (value : Valu
         let none = (subst (λ e. MayFollow e h.more false) ended h.may).0 in
         let ahead : r.tokens.ahead ++ h.more ≡ [] =
         ap (λ b. b ++ h.more) (ap (λ g. g.ahead) (sym same) ∙ through.1) ∙ none in
-        let place : l.place ≡ [] =
-        subst (λ us. AreTokens false us l.place (r.tokens.ahead ++ h.more)) (h.given.going going) l.stand ∙ ahead in
-        (goes-on r.text l.place l.follows.left l.follows.leads token.End [] (refl, ap after_blanks place, refl)).allowed
+        let place : l.place ≡ l.left =
+        subst (λ us. AreTokens false us l.place l.left) (h.given.going going) l.stand in
+        (goes-on r.text l.place l.follows.left l.follows.leads token.End [] (refl, ap after_blanks place ∙ l.same ∙ ap after_blanks ahead, refl)).allowed
 
     -- none is misplaced
     placed : (e : EventError) (new : EventState) → ¬ (IsMisplaced r e new)
@@ -151,20 +159,21 @@ pub whole-unbroken : (r : EventState) (input : List ℕ) (events : List Event) (
     → ¬ (IsDamage r.text.depth input damage)
 whole-unbroken r input events damage g going ((ended, none), end) (within, never, breaks) =
     let may = subst (λ e. MayFollow e [] false) (sym ended) (refl, refl) in
-    let read = read-tokens r.tokens input (g.taken ++ g.others) g.read [] may in
+    let left = g.read.blanks ++ (r.tokens.ahead ++ []) in
+    let read = taken-tokens r.tokens input (g.taken ++ g.others) g.read [] may in
     let taken = ap (λ us. g.taken ++ us) (g.going going) ∙ append-nil g.taken in
-    let stand = subst (λ ts. AreTokens false ts (input ++ []) (r.tokens.ahead ++ [])) taken read in
+    let stand = subst (λ ts. AreTokens false ts (input ++ []) left) taken read in
+    let after = taken-after r.tokens input (g.taken ++ g.others) g.read [] in
     let stops = text-broken r.text.depth input (drop damage.offset input) breaks in
     stops-none (at_begin r.text.depth) input (drop damage.offset input) stops events (record {
       last = r.text;
-      rest = [];
+      rest = left;
       runs = record {
         tokens = g.taken;
-        stand = subst (λ b. AreTokens false g.taken b []) (append-nil input)
-            (subst (AreTokens false g.taken (input ++ [])) (ap (λ b. b ++ []) none) stand);
+        stand = subst (λ b. AreTokens false g.taken b left) (append-nil input) stand;
         takes = g.takes;
       };
-      none = refl;
+      none = after ∙ ap (λ b. after_blanks (b ++ [])) none;
       end = end;
     })
 
@@ -175,7 +184,7 @@ pub needs-waits : (r new : EventState) (input : List ℕ) (events : List Event)
     → (new.tokens.ended ≡ false) × (new.stopped ≡ None) × Lacks (λ p. OneToken) new.tokens
 needs-waits r new input events given (q, (passed, (going, stays, (goes, lacks)))) =
     let read = (passed.0 input events given).read in (
-      ap (λ (f : ReaderState JsonToken). f.ended) stays.1 ∙ goes,
+      waits-ended q.tokens new.tokens stays.1 ∙ goes,
       going,
-      subst (λ (f : ReaderState JsonToken). Lacks (λ p. OneToken) f) (sym stays.1) (lacks input _ read),
+      waits-lacks q.tokens new.tokens stays.1 (lacks input _ read),
     )

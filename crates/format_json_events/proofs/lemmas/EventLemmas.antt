@@ -1,9 +1,8 @@
 -- What a step of the reader of events makes of what it has given.
-use Rattle.std.proofs.Common.{◌≡◌, ℕ, List, [], ◌∷◌, ◌++◌, Option, Some, None, ◌⊎◌, inl, inr, ap, sym, ◌∙◌, subst, refl, append_assoc, append-nil}
+use Rattle.std.proofs.Common.{◌≡◌, List, [], ◌∷◌, ◌++◌, Option, Some, None, ◌⊎◌, inl, inr, ap, sym, ◌∙◌, subst, refl, append_assoc, append-nil}
 use Rattle.std.specs.Prelude.{Result, Ok, Err}
 use Rattle.winnow.specs.State.{ReaderState}
-use Rattle.winnow.specs.Reading.{HasRead}
-use Rattle.format_json.specs.TokenAnswers.{OneToken}
+use Rattle.format_json_events.specs.Blanks.{HasTaken, TakesThrough}
 use Rattle.format_json_events.specs.Turns.{TextState, at_begin, turn_at, turn_events, after_turn, answer_of}
 use Rattle.format_json_events.specs.Reading.{IsAllowed, Takes, EventState, GivesOn, KeepsLimits, Brings, BringsEnd, IsComing, taken_events}
 use Rattle.format_json.specs.declared.tokens.Token.{Token}
@@ -19,6 +18,7 @@ use Rattle.format_json_events.specs.declared.syntax.Taken.TheVariants as taken
 use Rattle.format_json_events.specs.declared.turns.Misplaced.{Misplaced}
 use Rattle.format_json_events.specs.declared.turns.Turn.{Turn}
 use Rattle.format_json_events.specs.declared.turns.Turn.TheVariants.{Opens, Closes, Gives, Names, Passes, Ends, Refuses}
+use Rattle.format_json_events.proofs.lemmas.WaitLemmas.{waits-ended}
 
 -- ---- Turns
 
@@ -117,7 +117,7 @@ module _ (old : EventState) (f : ReaderState JsonToken) (going : old.stopped ≡
   given-token t b ok input before g = record {
     taken = g.taken ++ t ∷ [];
     others = [];
-    read = subst (λ l. HasRead (λ p. OneToken) f input l)
+    read = subst (λ l. HasTaken f input l)
         (ap (λ l. (g.taken ++ l) ++ t ∷ []) (g.going going) ∙ ap (λ l. l ++ t ∷ []) (append-nil g.taken) ∙ sym (append-nil (g.taken ++ t ∷ [])))
         (b.read input (g.taken ++ g.others) g.read);
     going = λ e. refl;
@@ -128,7 +128,7 @@ module _ (old : EventState) (f : ReaderState JsonToken) (going : old.stopped ≡
 
   -- nothing was read
   given-same : (stopped : Option EventError) → (stopped ≡ None → old.stopped ≡ None)
-      → ((input : List ℕ) (tokens : List Token) → HasRead (λ p. OneToken) old.tokens input tokens → HasRead (λ p. OneToken) f input tokens)
+      → TakesThrough old.tokens f
       → GivesOn old [] (reader_at old.text stopped)
   given-same stopped still read input before g = record {
     taken = g.taken;
@@ -144,15 +144,14 @@ module _ (old : EventState) (f : ReaderState JsonToken) (going : old.stopped ≡
   given-refused t e b input before g = record {
     taken = g.taken;
     others = g.others ++ t ∷ [];
-    read = subst (λ l. HasRead (λ p. OneToken) f input l) (append_assoc g.taken g.others (t ∷ [])) (b.read input (g.taken ++ g.others) g.read);
+    read = subst (λ l. HasTaken f input l) (append_assoc g.taken g.others (t ∷ [])) (b.read input (g.taken ++ g.others) g.read);
     going = λ none. cc none;
     takes = subst (λ l. Takes (at_begin old.text.depth) g.taken l old.text) (sym (append-nil before)) g.takes;
   }
 
   -- what was read of the same reader
-  same-read : f ≡ old.tokens → (input : List ℕ) (tokens : List Token)
-      → HasRead (λ p. OneToken) old.tokens input tokens → HasRead (λ p. OneToken) f input tokens
-  same-read e input tokens h = subst (λ k. HasRead (λ p. OneToken) k input tokens) (sym e) h
+  same-read : f ≡ old.tokens → TakesThrough old.tokens f
+  same-read e input tokens h = subst (λ k. HasTaken k input tokens) (sym e) h
 
   module _ (middle new : TextState) (same : middle ≡ old.text) where
     -- a token was taken
@@ -205,7 +204,7 @@ module _ (old : EventState) (f : ReaderState JsonToken) (going : old.stopped ≡
 
     -- nothing was read
     pub step-waits : new ≡ middle
-        → ((input : List ℕ) (tokens : List Token) → HasRead (λ p. OneToken) old.tokens input tokens → HasRead (λ p. OneToken) f input tokens)
+        → TakesThrough old.tokens f
         → GivesOn old [] (reader_at new old.stopped)
     step-waits e read =
         subst (λ s. GivesOn old [] (reader_at s old.stopped)) (sym (e ∙ same)) (given-same old.stopped (λ none. none) read)
@@ -217,7 +216,7 @@ pub coming-ended : (text : TextState) (old : ReaderState JsonToken)
 coming-ended text old (Ok (coming.Token t)) new b = b.ended
 coming-ended text old (Ok coming.End) new (through, inl b) = b.ended
 coming-ended text old (Ok coming.End) new (through, inr same) = ap (λ f. f.ended) same
-coming-ended text old (Ok coming.NeedsMore) new (same, awaits, read) = ap (λ f. f.ended) same
+coming-ended text old (Ok coming.NeedsMore) new (waits, awaits, read) = waits-ended old new waits
 coming-ended text old (Err e) new (same, none) = ap (λ f. f.ended) same
 
 -- values may stand as deep after a token as before

@@ -1,9 +1,10 @@
 -- The next token, from what a reader of records answers.
-use Rattle.std.proofs.Common.{◌≡◌, ℕ, Bool, true, false, not, List, length, ap, sym, ◌∙◌, subst, refl, arith, append-nil, length-drop, inl}
+use Rattle.std.proofs.Common.{◌≡◌, ℕ, Bool, true, false, not, length, ap, sym, ◌∙◌, subst, refl, arith, length-drop, inl}
 use Rattle.std.specs.Prelude.{Result, Ok, Err}
 use Rattle.winnow_stream.specs.Source.{units}
+use Rattle.winnow_parser.specs.Outcome.{Gives}
+use Rattle.winnow.specs.Place.{bytes_at}
 use Rattle.winnow.specs.State.{ReaderState}
-use Rattle.winnow.specs.Reading.{HasRead, ReadsOn}
 use Rattle.winnow.specs.Answering.{ReadsNext, FailsAt-by, IsDoneAtEnd}
 use Rattle.winnow.specs.Waiting.{WaitsByScan}
 use Rattle.winnow_reader.specs.declared.next.Next.{Next}
@@ -16,11 +17,13 @@ use Rattle.format_json.specs.Tokens.{TokenAhead}
 use Rattle.format_json.specs.TokenAnswers.{OneToken}
 use Rattle.format_json.specs.Reading.{FindsDamage}
 use Rattle.format_json.specs.Scan.{IsScanned}
+use Rattle.format_json_events.specs.Blanks.{TakesAlso}
 use Rattle.format_json_events.specs.Reading.{Brings, BringsEnd}
 use Rattle.format_json.specs.declared.tokens.Token.{Token}
 use Rattle.format_json.specs.declared.tokens.Token.TheVariants as token
 use Rattle.format_json.specs.declared.reading.JsonToken.{JsonToken}
 use Rattle.format_json.proofs.lemmas.TokenReadingLemmas.{fails-damaged}
+use Rattle.format_json_events.proofs.lemmas.DroppedLemmas.{taken-token}
 use Rattle.format_json_events.proofs.lemmas.TakingLemmas.{idles-at-end}
 
 -- nothing follows the end
@@ -40,24 +43,17 @@ ReadsToken old result new =
 module _ {E : Type 0} (old new : ReaderState JsonToken) where
   -- a token that was read stood ahead
   pub value-brings : (t : Token) (result : Result (Next Token) (ReadError E))
-      → result ≡ Ok (next.Value t) → ReadsToken old result new
-      → ReadsOn (λ p. OneToken) old result new → Brings old t new
-  value-brings t result e value read =
+      → result ≡ Ok (next.Value t) → ReadsToken old result new → Brings old t new
+  value-brings t result e value =
       let h = subst (λ r. ReadsToken old r new) e value in
+      let gives = subst (λ (f : ReaderState JsonToken). OneToken (not old.ended) (bytes_at old.place old.ahead) (Gives t (bytes_at f.place f.ahead))) h.1.3 h.1.2 in
       record {
-        read = λ input tokens was. subst (λ r. ReadsOn (λ p. OneToken) old r new) e read input tokens was;
+        read = subst (TakesAlso old t) (sym h.1.3) (taken-token old t h.0 h.1.0 h.1.1 gives);
         stands = subst (λ l. TokenAhead (not old.ended) t l new.ahead) (bytes-units old.ahead)
             (subst (TokenAhead (not old.ended) t (bytes_of (units old.ahead))) (bytes-units new.ahead) h.1.2.1);
         fewer = omega (arith, h.1.0, h.1.1, ap (λ f. length f.ahead) h.1.3, length-drop h.0 old.ahead);
         ended = ap (λ f. f.ended) h.1.3;
       }
-
-  -- where more is needed, what was read was read before
-  pub waits-read : (result : Result (Next Token) (ReadError E)) → result ≡ Ok next.NeedsMore
-      → ReadsOn (λ p. OneToken) old result new → (input : List ℕ) (tokens : List Token)
-      → HasRead (λ p. OneToken) old input tokens → HasRead (λ p. OneToken) new input tokens
-  waits-read result e read input tokens was =
-      subst (HasRead (λ p. OneToken) new input) (append-nil tokens) (subst (λ r. ReadsOn (λ p. OneToken) old r new) e read input tokens was)
 
   -- where the record failed, the token is damaged, and nothing changed
   pub failed-there : (x : E) (place : ℕ) (cut : Bool) (result : Result (Next Token) (ReadError E))

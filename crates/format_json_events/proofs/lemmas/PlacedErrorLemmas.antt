@@ -8,12 +8,13 @@ use Rattle.winnow.specs.Reading.{MayFollow}
 use Rattle.format_lemmas.specs.Bytes.{StartsWith}
 use Rattle.format_lemmas.proofs.lemmas.ByteLemmas.{heads}
 use Rattle.format_json_scalars.specs.Numbers.{is_number_byte}
+use Rattle.format_json_scalars.specs.StringAnswers.{IsDamagedAt}
 use Rattle.format_json.specs.Language.{after_blanks}
 use Rattle.format_json.specs.Tokens.{Lexeme, Word, Digits, Quoted, Ending, lexeme_of, TokenHere, TokenAhead}
 use Rattle.format_json.specs.TokenAnswers.{IsWrongAt}
 use Rattle.format_json.specs.Reading.{AreTokens, FindsDamage}
 use Rattle.format_json.specs.TokenLaws.{blanks-more, after-longer, lexeme-some, ahead-longer}
-use Rattle.format_json_events.specs.Turns.{at_begin, inner_of, bar_at, bar_from, turn_at}
+use Rattle.format_json_events.specs.Turns.{TextState, at_begin, inner_of, bar_at, bar_from, turn_at}
 use Rattle.format_json_events.specs.Reading.{IsAllowed, EventState, HasGiven, Brings, BringsEnd, token_place, bar_ahead, IsNoNext, IsMisplaced, error_at, IsNext}
 use Rattle.format_json_events.specs.Stops.{StopsHere, Stops, StopsAt, TellsStop}
 use Rattle.format_json.specs.declared.tokens.Token.{Token}
@@ -26,7 +27,7 @@ use Rattle.format_json_events.specs.declared.turns.Misplaced.{Misplaced}
 use Rattle.format_json_events.specs.declared.turns.Misplaced.TheVariants as misplaced
 use Rattle.format_json_events.specs.declared.turns.Turn.TheVariants.{Refuses}
 use Rattle.format_json.proofs.lemmas.JsonTokenLemmas.{BeginsAs, token-begins, damage-none, token-once}
-use Rattle.format_json.proofs.lemmas.TokenReadingLemmas.{read-tokens}
+use Rattle.format_json_events.proofs.lemmas.DroppedLemmas.{taken-tokens, taken-after}
 use Rattle.format_json_events.proofs.lemmas.TakingLemmas.{blanks-within}
 use Rattle.format_json_events.proofs.lemmas.AheadLemmas.{damage-some}
 use Rattle.format_json_events.proofs.lemmas.SameTurnLemmas.{string-only, turns-same}
@@ -75,6 +76,20 @@ quote-split : (b : List ℕ) → StartsWith 34 b → (q : List ℕ) × (b ≡ 34
 quote-split [] h = absurd h
 quote-split (x ∷ b) h = (b, ap (λ n. n ∷ b) h)
 
+-- a text stops at what follows its blanks, also after other blanks
+stops-same : (s : TextState) (b c rest : List ℕ) → after_blanks b ≡ after_blanks c
+    → StopsHere s b rest → StopsHere s c rest
+stops-same s b c rest e (inl (free, damaged)) =
+    inl (free, subst (λ l. IsDamagedAt false l rest) e damaged)
+stops-same s b c rest e (inr (is, (none, quote))) =
+    inr (
+      is ∙ e,
+      (
+        (λ t after h. none t after (subst (λ l. TokenHere false t l after) (sym e) h)),
+        (λ free starts. quote free (subst (StartsWith 34) (sym e) starts)),
+      ),
+    )
+
 -- ---- One reader
 
 module _ (r : EventState) (input : List ℕ) (events : List Event) (given : HasGiven r input events) (going : r.stopped ≡ None) (more : List ℕ) (may : MayFollow r.tokens.ended more false) where
@@ -94,16 +109,18 @@ module _ (r : EventState) (input : List ℕ) (events : List Event) (given : HasG
       let whole = ends-on all_on ahead_on rest (ends-longer input r.tokens.ahead more (given-rest r input events given)) ends in
       let from = ends-from all_on rest place whole sum in
       let taken = ap (λ us. given.taken ++ us) (given.going going) ∙ append-nil given.taken in
-      let read = read-tokens r.tokens input (given.taken ++ given.others) given.read more may in (
+      let left = given.read.blanks ++ ahead_on in
+      let read = taken-tokens r.tokens input (given.taken ++ given.others) given.read more may in
+      let after = sym (taken-after r.tokens input (given.taken ++ given.others) given.read more) in (
         from.0,
         subst (Stops (at_begin r.text.depth) all_on) (sym from.1) (record {
           tokens = given.taken;
           events = events;
           last = r.text;
-          left = ahead_on;
-          stand = subst (λ ts. AreTokens false ts all_on ahead_on) taken read;
+          left = left;
+          stand = subst (λ ts. AreTokens false ts all_on left) taken read;
           takes = given.takes;
-          stops = stops;
+          stops = stops-same r.text ahead_on left rest after stops;
         }),
       )
 

@@ -75,22 +75,25 @@ reads-rest (t ∷ tokens) a b (c, (h, less, more)) =
     (bytes_of h.0.taken, moved) (reads-rest tokens c b more)
 
 module _ (r : EventState) (input : List ℕ) (events : List Event) (h : HasGiven r input events) where
+  -- what stands after all that the reader took
+  abbrev left_all : List ℕ
+  left_all = h.read.blanks ++ r.tokens.ahead
+
   -- what the reader read
   read-all : Reads OneToken false (bytes_at 0 (input ++ [])) (h.taken ++ h.others)
-      (bytes_at r.tokens.place (r.tokens.ahead ++ []))
-  read-all = h.read.reads [] false (none-follows r.tokens.ended)
+      (bytes_at h.read.start (left_all ++ []))
+  read-all = h.read.read.reads [] false (none-follows r.tokens.ended)
 
   -- it has as much of the input as there is
   pub given-fed : fed_of r.tokens ≡ length input
   given-fed =
-      let f = r.tokens in
-      let ends = same_Some _ _ (reads-end (h.taken ++ h.others) (bytes_at 0 (input ++ [])) (bytes_at f.place (f.ahead ++ [])) read-all) in
-      omega (arith, ends, width-units (input ++ []), width-units (f.ahead ++ []), length-append input [], length-append f.ahead [])
+      let ends = same_Some _ _ (reads-end (h.taken ++ h.others) (bytes_at 0 (input ++ [])) (bytes_at h.read.start (left_all ++ [])) read-all) in
+      omega (arith, ends, h.read.there, width-units (input ++ []), width-units (left_all ++ []), length-append input [], length-append left_all [], length-append h.read.blanks r.tokens.ahead)
 
   -- the input ends with what is ahead
   pub given-rest : EndsWith input r.tokens.ahead
   given-rest =
-      let f = r.tokens in
-      let rest = reads-rest (h.taken ++ h.others) (bytes_at 0 (input ++ [])) (bytes_at f.place (f.ahead ++ [])) read-all in
-      subst (λ l. EndsWith l f.ahead) (bytes-units (input ++ []) ∙ append-nil input)
-      (subst (λ l. EndsWith (bytes_of (bytes_at 0 (input ++ [])).tokens) l) (bytes-units (f.ahead ++ []) ∙ append-nil f.ahead) rest)
+      let rest = reads-rest (h.taken ++ h.others) (bytes_at 0 (input ++ [])) (bytes_at h.read.start (left_all ++ [])) read-all in
+      let whole = subst (λ l. EndsWith l left_all) (bytes-units (input ++ []) ∙ append-nil input)
+      (subst (λ l. EndsWith (bytes_of (bytes_at 0 (input ++ [])).tokens) l) (bytes-units (left_all ++ []) ∙ append-nil left_all) rest) in
+      ends-on input left_all r.tokens.ahead whole (h.read.blanks, refl)

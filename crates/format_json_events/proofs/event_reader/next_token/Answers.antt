@@ -6,32 +6,37 @@ use Rattle.winnow_reader.specs.declared.next.Next.TheVariants as next
 use Rattle.format_json.specs.TokenAnswers.{OneToken}
 use Rattle.format_json.specs.Reading.{FindsDamage}
 use Rattle.format_json.specs.Scan.{IsScanned}
+use Rattle.format_json_events.specs.Blanks.{DropsBlanks}
 use Rattle.format_json_events.specs.Turns.{state_of}
 use Rattle.format_json_events.specs.Reading.{IsNoNext}
 use Rattle.format_json.specs.declared.tokens.Token.TheVariants as token
-use Rattle.format_json_events.proofs.lemmas.NextTokenLemmas.{value-brings, end-brings, waits-read, failed-there, never-idle}
-use Rattle.format_json_events.proofs.lemmas.WaitLemmas.{awaits-scanned}
+use Rattle.format_json_events.proofs.lemmas.NextTokenLemmas.{value-brings, end-brings, failed-there, never-idle}
+use Rattle.format_json_events.proofs.lemmas.DroppedLemmas.{taken-dropped}
+use Rattle.format_json_events.proofs.lemmas.WaitLemmas.{awaits-scanned, taken-scanned}
 use Rattle.format_json_events.proofs.event_reader.next_token.Goals as goal
 
 pub returns-in-Ok-Value-End : goal.returns-in-Ok-Value-End
 returns-in-Ok-Value-End c =
     let e = c.in-Ok-Value-End.is ∙ ap Ok (c.in-Ok-Value-End.field-0-is ∙ ap next.Value c.in-Ok-Value-End.field-0-0-is) in
     end-brings c.args.tokens.now c.read_next.new.self
-    (value-brings c.args.tokens.now c.read_next.new.self token.End c.read_next.result e c.read_next.ensures.next c.read_next.ensures.read)
+    (value-brings c.args.tokens.now c.read_next.new.self token.End c.read_next.result e c.read_next.ensures.next)
 
 pub returns-in-Ok-Value : goal.returns-in-Ok-Value
 returns-in-Ok-Value c =
     let e = c.in-Ok-Value.is ∙ ap Ok c.in-Ok-Value.field-0-is in
-    value-brings c.args.tokens.now c.read_next.new.self c.in-Ok-Value.token c.read_next.result e c.read_next.ensures.next c.read_next.ensures.read
+    value-brings c.args.tokens.now c.read_next.new.self c.in-Ok-Value.token c.read_next.result e c.read_next.ensures.next
 
 pub returns-in-Ok-NeedsMore : goal.returns-in-Ok-NeedsMore
 returns-in-Ok-NeedsMore c =
     let e = c.in-Ok-NeedsMore.is ∙ ap Ok c.in-Ok-NeedsMore.field-0-is in
     let old = c.args.tokens.now in
-    let waits = subst (λ r. ReadsNext (λ p. OneToken) (WaitsByScan (λ p. OneToken) (λ p. IsScanned)) old r c.read_next.new.self) e c.read_next.ensures.next in (
-      waits.3,
-      awaits-scanned old waits.0 waits.1,
-      waits-read c.args.tokens.now c.read_next.new.self c.read_next.result e c.read_next.ensures.read,
+    let there = c.read_next.new.self in
+    let new = c.drop_blanks.new.tokens in
+    let waits = subst (λ r. ReadsNext (λ p. OneToken) (WaitsByScan (λ p. OneToken) (λ p. IsScanned)) old r there) e c.read_next.ensures.next in
+    let stays = taken-scanned old there waits (λ goes less. (c.read_next.ensures.early goes less).1) in (
+      (there.wanted, subst (λ f. DropsBlanks f new) waits.3 c.drop_blanks.ensures),
+      awaits-scanned old there waits,
+      λ input tokens h. taken-dropped there new c.drop_blanks.ensures input tokens (stays input tokens h),
     )
 
 pub damage_at-requires : goal.damage_at-requires

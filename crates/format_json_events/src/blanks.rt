@@ -1,0 +1,26 @@
+//! The blanks before a token, which a reader need not keep.
+
+ghost use Rattle.std.specs.Prelude.{◌≡◌};
+ghost use Rattle.format_json_events.specs.Blanks.{DropsBlanks};
+ghost use Rattle.format_json_events.specs.Reading.{token_place};
+
+use format_json::{JsonToken, blank_count};
+use winnow::scan::ScanReader;
+
+/// Drops the blanks ahead. Where there are none the scan of the token goes on.
+pub(crate) fn drop_blanks(tokens: &mut ScanReader<JsonToken>)
+    ensures { DropsBlanks tokens.old tokens.new }
+{
+    let blanks = blank_count(tokens.ahead());
+    if 0 < blanks {
+        let _ = tokens.skip(blanks);
+    }
+}
+
+/// Returns where the token ahead begins in the joined input.
+pub(crate) fn token_start(tokens: &ScanReader<JsonToken>) -> usize
+    ensures { result ≡ token_place tokens.now }
+{
+    let ahead = tokens.ahead();
+    tokens.fed() - (ahead.len() - blank_count(ahead))
+}
