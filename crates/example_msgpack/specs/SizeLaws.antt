@@ -16,7 +16,7 @@ one-number : (rule : Rule) (m n written : ℕ) → IsNumber rule m written → I
 one-number (From least) m n written p q = omega arith
 one-number (Complement least most top) m n written p q = omega arith
 
-one-written : (rule : Rule) (n v w : ℕ) → IsNumber rule n v → IsNumber rule n w → v ≡ w
+pub one-written : (rule : Rule) (n v w : ℕ) → IsNumber rule n v → IsNumber rule n w → v ≡ w
 one-written (From least) n v w p q = omega arith
 one-written (Complement least most top) n v w p q = omega arith
 

@@ -6,7 +6,14 @@ use Rattle.winnow_codec.specs.Writing.{Writes}
 use Rattle.winnow_codec.specs.declared.unwritten.Unwritten.{Unwritten}
 use Rattle.winnow_codec.specs.declared.unwritten.Unwritten.TheVariants.{Unspelled, Refused}
 use Rattle.winnow_codec.proofs.lemmas.Reading.{takes-front}
-use Rattle.example_msgpack.specs.Sizes.{SpellsBy}
+use Rattle.winnow_codec.specs.FormatNumbers.{bytes_in}
+use Rattle.winnow_codec.specs.Known.{SpellsNothing}
+use Rattle.winnow_codec.specs.declared.widths.Width.{Width}
+use Rattle.example_msgpack.specs.SizeLaws.{IsFormat-Big, one-written}
+use Rattle.example_msgpack.specs.Sizes.{SpellsBy, SpellsBig, SpellsSize, IsNumber}
+use Rattle.example_msgpack.specs.declared.size.Rule.{Rule}
+use Rattle.example_msgpack.specs.declared.size.Size.{Size}
+use Rattle.example_msgpack.specs.declared.size.Size.TheVariants.{Held, Following}
 
 module _ {V W : Type 0} (leads : W → V → Type 0) (inner : Spelling V) where
   pub led-read : (v : V) (w : W) → leads w v → (partial : Bool) (a b : Ahead ℕ)
@@ -44,3 +51,33 @@ module _ {V W : Type 0} (leads : W → V → Type 0) (inner : Spelling V) where
   pub led-unwritten : (w : W) → ((v : V) → leads w v → ⊥) → (old : List ℕ)
       → Writes (SpellsBy leads inner) w old (Err Unspelled) old
   led-unwritten w none old = (λ bytes (v, (p, s)). none v p, refl)
+
+-- ---- The numbers that a first byte announces
+
+pub held-unread : (size : Size) (number : ℕ) → size ≡ Held number → (partial : Bool) (a : Ahead ℕ)
+    (f : Failed ℕ)
+    → Reads SpellsNothing partial a (Fails f) → Reads (SpellsSize size) partial a (Fails f)
+held-unread size number is partial a f h =
+    subst (λ (s : Size). Reads (SpellsSize s) partial a (Fails f)) (sym is)
+    (led-unread (λ (n : ℕ) (_ : Unit {0}). n ≡ number) SpellsNothing partial a f h)
+
+pub following-unread : (size : Size) (width : Width) (rule : Rule) → size ≡ Following width rule
+    → (partial : Bool) (a : Ahead ℕ) (f : Failed ℕ)
+    → Reads (SpellsBig (bytes_in width)) partial a (Fails f) → Reads (SpellsSize size) partial a (Fails f)
+following-unread size width rule is partial a f h =
+    subst (λ (s : Size). Reads (SpellsSize s) partial a (Fails f)) (sym is)
+    (led-unread (IsNumber rule) (SpellsBig (bytes_in width)) partial a f h)
+
+pub following-refused : (size : Size) (width : Width) (rule : Rule) → size ≡ Following width rule
+    → (v : ℕ) → ((n : ℕ) → IsNumber rule n v → ⊥) → (partial : Bool) (a b : Ahead ℕ)
+    → Reads (SpellsBig (bytes_in width)) partial a (Gives v b)
+    → Reads (SpellsSize size) partial a (Fails (Backtracks b))
+following-refused size width rule is v none partial a b h =
+    rw is (led-refused (IsNumber rule) (SpellsBig (bytes_in width)) (IsFormat-Big width) v none partial a b h)
+
+pub following-written : (size : Size) (width : Width) (rule : Rule) → size ≡ Following width rule
+    → (n v : ℕ) → IsNumber rule n v → (old new : List ℕ) (result : Result (Unit {0}) Unwritten)
+    → Writes (SpellsBig (bytes_in width)) v old result new → Writes (SpellsSize size) n old result new
+following-written size width rule is n v p old new result h =
+    rw is (led-written (IsNumber rule) (SpellsBig (bytes_in width)) n v p
+    (λ u q. one-written rule n u v q p) old new result h)
