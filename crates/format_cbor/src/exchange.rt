@@ -40,8 +40,8 @@ pub fn item_law<F: Format<Value = Item> + Drop>(longest: usize, inner: F)
     round_trip_law(&layer(longest, inner));
 }
 
-/// Reads a scalar, of which a string has at most `longest` bytes.
-pub fn read_scalar<I: StreamIsPartial<Token = u8>, E: ParserError<I>>(
+/// Reads a data item that holds no other, of which a string has at most `longest` bytes.
+pub fn read_data_item<I: StreamIsPartial<Token = u8>, E: ParserError<I>>(
     longest: usize,
     alloc: Global,
     input: &mut I,
@@ -54,8 +54,13 @@ pub fn read_scalar<I: StreamIsPartial<Token = u8>, E: ParserError<I>>(
     scalars(longest).read(alloc, input)
 }
 
-/// Appends the bytes of a scalar, of which a string has at most `longest` bytes.
-pub fn write_scalar(longest: usize, scalar: &Scalar, bytes: &mut Vec<u8>) -> Result<(), Unwritten>
+/// Appends the bytes of a data item that holds no other, of which a string has at most `longest`
+/// bytes.
+pub fn write_data_item(
+    longest: usize,
+    scalar: &Scalar,
+    bytes: &mut Vec<u8>,
+) -> Result<(), Unwritten>
     ensures { Writes (SpellsScalar longest) scalar.now bytes.old.items result bytes.new.items }
 {
     scalars(longest).write(scalar, bytes)

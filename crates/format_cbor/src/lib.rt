@@ -25,7 +25,7 @@ mod scalar;
 mod scalar_format;
 
 pub use argument::Argument;
-pub use exchange::{head_law, item_law, read_scalar, scalar_law, write_scalar};
+pub use exchange::{head_law, item_law, read_data_item, scalar_law, write_data_item};
 pub use head::{Head, Kind};
 pub use head_format::{ArgumentAfter, HeadFormat, heads};
 pub use item::Item;

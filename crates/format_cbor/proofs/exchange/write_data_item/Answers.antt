@@ -1,7 +1,7 @@
 use Rattle.std.proofs.Common.{subst}
 use Rattle.winnow_codec.specs.Writing.{Writes}
 use Rattle.format_cbor.specs.Scalars.{SpellsScalar}
-use Rattle.format_cbor.proofs.exchange.write_scalar.Goals as goal
+use Rattle.format_cbor.proofs.exchange.write_data_item.Goals as goal
 
 pub returns : goal.returns
 returns c =

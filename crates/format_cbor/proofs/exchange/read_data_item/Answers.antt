@@ -2,7 +2,7 @@ use Rattle.std.proofs.Common.{subst}
 use Rattle.winnow_parser.specs.Answer.{ahead, outcome}
 use Rattle.winnow_codec.specs.Formats.{Reads}
 use Rattle.format_cbor.specs.Scalars.{SpellsScalar}
-use Rattle.format_cbor.proofs.exchange.read_scalar.Goals as goal
+use Rattle.format_cbor.proofs.exchange.read_data_item.Goals as goal
 
 pub returns : goal.returns
 returns g c =
