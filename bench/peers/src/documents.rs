@@ -117,6 +117,11 @@ fn json_document(chance: &mut Chance) -> Vec<u8> {
     text
 }
 
+// Whether a count of replies has more digits than nom makes room for: its `count` panics there.
+fn announces_too_many(text: &[u8]) -> bool {
+    text.split(|byte| *byte == b'*').skip(1).any(|rest| rest.iter().take_while(|byte| byte.is_ascii_digit() || **byte == b'+').count() > 9)
+}
+
 // Changes, drops or puts in some bytes.
 fn damage(chance: &mut Chance, text: &mut Vec<u8>) {
     for _ in 0..=chance.below(2) {
@@ -166,7 +171,7 @@ impl Counts {
 fn csv_pairs(text: &[u8], piece: usize) -> [(&'static str, u64, u64); 6] {
     let theirs = csv::read_owned(text, Depth::Whole);
     [
-        ("whole", ours::read_csv(text, 0, Depth::Whole), theirs),
+        ("as one piece", ours::read_csv(text, text.len().max(1), Depth::Whole), theirs),
         ("in pieces", ours::read_csv(text, piece, Depth::Whole), theirs),
         ("by a scan", ours::scan_csv(text, piece, Depth::Whole), theirs),
         ("filled again", ours::fill_csv(text, piece, Depth::Whole), theirs),
@@ -180,7 +185,7 @@ fn resp_pairs(text: &[u8], piece: usize) -> [(&'static str, u64, u64); 4] {
     let events = resp::read_whole_events(text, Depth::Whole).map(|theirs| (ours::read_resp_events(text, piece, Depth::Whole), theirs));
     let (events, their_events) = events.unwrap_or_default();
     [
-        ("whole", ours::read_resp(text, 0, Depth::Whole), theirs),
+        ("as one piece", ours::read_resp(text, text.len().max(1), Depth::Whole), theirs),
         ("in pieces", ours::read_resp(text, piece, Depth::Whole), theirs),
         ("by a scan", ours::scan_resp(text, piece, Depth::Whole), theirs),
         ("events", events, their_events),
@@ -213,6 +218,9 @@ pub fn compare(count: usize, seed: u64) -> ExitCode {
                 damage(&mut chance, &mut text);
             }
             let piece = 1 + chance.below(20);
+            if format == "RESP" && announces_too_many(&text) {
+                continue;
+            }
             match format {
                 "CSV" => {
                     let pairs = csv_pairs(&text, piece);
