@@ -75,6 +75,23 @@ fn line_end(bytes: &[u8]) -> usize
     most
 }
 
+// Returns the bytes from where a character begins, since a line may be cut inside one.
+fn from_character(bytes: &[u8]) -> &[u8] {
+    let start = bytes.iter().position(|byte| !is_inside(*byte));
+    bytes.get(start.unwrap_or(bytes.len())..).unwrap_or(bytes)
+}
+
+// Returns the bytes without a character at their end that is cut.
+fn to_character(bytes: &[u8]) -> &[u8] {
+    let Err(error) = str::from_utf8(bytes) else {
+        return bytes;
+    };
+    if error.error_len().is_some() {
+        return bytes;
+    }
+    bytes.get(..error.valid_up_to()).unwrap_or(bytes)
+}
+
 // Returns what is shown for a character.
 fn shown(ch: char) -> char {
     if ch == '\t' || !ch.is_control() {
@@ -125,8 +142,8 @@ fn write_blanks<W: fmt::Write>(bytes: &[u8], f: &mut fmt::Formatter<W>) -> fmt::
 
 impl fmt::Display for Excerpt {
     fn fmt<W: fmt::Write>(&self, f: &mut fmt::Formatter<W>) -> fmt::Result {
-        write_shown(&self.before, f)?;
-        write_shown(&self.after, f)?;
+        write_shown(from_character(&self.before), f)?;
+        write_shown(to_character(&self.after), f)?;
         f.write_str("\n")?;
         write_blanks(&self.before, f)?;
         f.write_str("^")
