@@ -1,0 +1,6 @@
+pub mod FeedLemmas
+pub mod LineLemmas
+pub mod ReadLemmas
+pub mod DamageLemmas
+pub mod CopiedLemmas
+pub mod StartLemmas

@@ -1,0 +1,5 @@
+pub mod Settings
+pub mod Lines
+pub mod Failures
+pub mod Progress
+pub mod Copying

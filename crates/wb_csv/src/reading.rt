@@ -1,0 +1,69 @@
+//! Reading the records that are ahead.
+
+ghost use Rattle.std.specs.Prelude.{◌≡◌, ◌+◌, ◌-◌, ◌≤◌, ◌<◌, ◌^◌, true, [], length, take, drop};
+ghost use Rattle.std.specs.Prelude.{OnOk, IfErr};
+ghost use Rattle.winnow.specs.State.{fed_of};
+ghost use Rattle.csv.specs.Records.{fields_of};
+ghost use Rattle.wb_csv.specs.Copying.{IsOfInput, IsDamageAfter, IsBegun, ReadsLines, StopsAfter};
+
+use crate::failure::{Failure, Fault};
+use crate::lines::append_line;
+use crate::progress::Progress;
+use crate::settings::Settings;
+use example_base::Trouble;
+use format_csv::{ByteRecord, RowError, RowReader};
+use wb_base::{Excerpt, position_after};
+use winnow::reader::Next;
+
+/// Reads until there is no record, and appends the line of each to an empty text.
+pub fn read_records(
+    settings: &Settings,
+    reader: &mut RowReader,
+    row: &mut ByteRecord,
+    progress: &mut Progress,
+    text: &mut Vec<u8>,
+) -> Result<(), Failure>
+    requires begun { IsBegun settings.now reader.old progress.old }
+    requires empty { text.old.items ≡ [] }
+    ensures ok { OnOk result (ReadsLines settings.now reader.old progress.old
+        reader.new progress.new text.new.items) }
+    ensures through { OnOk result (reader.old.ended ≡ true → reader.new.ahead ≡ []) }
+    ensures ended { OnOk result (reader.new.ended ≡ reader.old.ended) }
+    ensures failed { IfErr result (λ failure. StopsAfter settings.now reader.old progress.old
+        failure text.new.items) }
+{
+    loop {
+        match reader.read_into(row) {
+            Ok(Next::Value(())) => {
+                if let Err(failure) = progress.count(settings, row) {
+                    return Err(failure);
+                }
+                if let Err(refused) = append_line(settings, row, text) {
+                    return Err(Failure::from(refused));
+                }
+            }
+            Ok(Next::NeedsMore) => return Ok(()),
+            Ok(Next::Done) => return Ok(()),
+            Err(RowError::Damaged { place }) => {
+                return Err(damage(reader, progress.feeds, place, text));
+            }
+            Err(RowError::Refused(_)) => return Err(Failure::Stopped(Trouble::OutOfMemory)),
+        }
+    }
+}
+
+// Says what is wrong at this place of the joined input.
+fn damage(reader: &RowReader, feeds: usize, place: usize, text: &Vec<u8>) -> Failure
+    requires from { reader.now.place ≤ place }
+    requires to { place ≤ fed_of reader.now }
+    requires counted { feeds + length reader.now.ahead + 1 < 2 ^ 64 }
+    ensures { IsDamageAfter feeds (take (place - reader.now.place) reader.now.ahead)
+        (drop (place - reader.now.place) reader.now.ahead) result }
+{
+    let (before, rest) = reader.ahead().split_at(place - reader.place());
+    Failure::Damaged {
+        position: position_after(feeds, before),
+        fault: Fault::of(rest),
+        excerpt: Excerpt::new(*text.allocator(), before, rest).ok(),
+    }
+}
