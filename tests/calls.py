@@ -23,7 +23,7 @@ REFUSING = ("AllocError", "RecordError", "RowError", "FieldError", "ReadError", 
 MADE = {"winnow_combinator/src/parsers/separated.rt", "winnow_resume/src/following.rt", "winnow_script_lines/src/literals.rt"}
 
 # The formats that are made of formats, and the functions that write several.
-OF_PARTS = r"\bFormat\s+for (\(|&|(After|AtMost|ByCode|EnumOf|OneValue|Struct|Tagged|Then|WithinCount)<)"
+OF_PARTS = r"\bFormat\s+for (\(|&|(After|AtMost|ByCode|EnumOf|OneValue|Struct|Tagged|Then|Verified|WithinCount)<)"
 ROWS = ["two", "three", "four", "five", "six", "seven", "eight", "nine", "ten", "first", "second", "third", "last_of_two", "last_of_three", "last_of_four"]
 
 # How an impl says that a method is never refused memory of its own.
