@@ -1,4 +1,4 @@
-/* woldbraid.h: readers of formats over input that comes in pieces.
+/* woldbraid.h: readers of formats over input that comes in pieces, and writers of them.
  *
  * A reader is made by a call `.._new`, and freed by `.._free`. Pieces of the input are pushed, in their order, and what they hold is read
  * by `.._next`, until that says that more is needed. After the last piece, `.._end` says that no more follows, and `.._next` reads on to
@@ -13,14 +13,28 @@
  *     ..
  *     wb_json_free(reader);
  *
- * Each call returns a status. What an event lends stays until the next call of its reader. There is no global state, so readers are
- * independent, and each stays on the thread that made it. When memory is refused, a call says so, nothing is lost, and the same call may be
- * made again. No call ends the program, waits or takes a lock.
+ * A writer is made by a call `.._writer_new`, and freed by `.._writer_free`. Values are written one by one. What was written is lent by
+ * `.._written`, and dropped by `.._forget`, so that a text of any length is written in the memory of its longest part.
+ *
+ *     wb_json_writer *writer = wb_json_writer_new(WB_JSON_DEPTH);
+ *     wb_written written;
+ *     ..
+ *     wb_json_start_array(writer);
+ *     wb_json_write_integer(writer, 7);
+ *     wb_json_end_array(writer);
+ *     wb_json_written(writer, &written);
+ *     fwrite(written.text, 1, written.length, file);
+ *     ..
+ *     wb_json_writer_free(writer);
+ *
+ * Each call returns a status. What an event lends stays until the next call of its reader, and what a writer lends until its next call. There
+ * is no global state, so readers and writers are independent, and each stays on the thread that made it. When memory is refused, a call says
+ * so, nothing is lost, and the same call may be made again. No call ends the program, waits or takes a lock.
  *
  * The code of the calls is proved up to its own boundary. A caller is trusted for this, which nothing checks: a reader was made by `.._new`
- * or `.._of` and not freed; a pointer has as many bytes as the length says; a struct that is written has room. Memory comes from malloc,
- * realloc and free, which are one allocator, and align a block to each power of two up to 16 that divides its size. No call is made in a
- * signal handler, nor in the forked child of a process with threads.
+ * or `.._of`, a writer by `.._writer_new`, and neither was freed; a pointer has as many bytes as the length says; a struct that is written has
+ * room. Memory comes from malloc, realloc and free, which are one allocator, and align a block to each power of two up to 16 that divides its
+ * size. No call is made in a signal handler, nor in the forked child of a process with threads.
  */
 #ifndef WOLDBRAID_H
 #define WOLDBRAID_H
@@ -52,14 +66,20 @@ typedef uint32_t wb_status;
 #define WB_REFUSED UINT32_C(6)
 /* The input is damaged at a place. The reader stays there. */
 #define WB_DAMAGED UINT32_C(7)
-/* A token stands at a place where it may not. */
+/* A token stands at a place where it may not; or nothing was written, since what the call writes may not come next. */
 #define WB_UNEXPECTED UINT32_C(8)
-/* A value or a reply stands at a place within more arrays and objects than the limit `depth`. */
+/* A value or a reply stands at a place within more arrays and objects than the limit `depth`; or nothing was written, since it would. */
 #define WB_TOO_DEEP UINT32_C(9)
 /* The input ends before the text does. */
 #define WB_ENDS_EARLY UINT32_C(10)
-/* The reader is that of another format. Nothing was done. */
+/* The reader or the writer is that of another format. Nothing was done. */
 #define WB_OTHER_FORMAT UINT32_C(11)
+/* Nothing was written: the text is no number of JSON. */
+#define WB_NO_NUMBER UINT32_C(12)
+/* Nothing was written: the bytes are no UTF-8. */
+#define WB_BAD_UTF8 UINT32_C(13)
+/* Nothing was written: a simple string or an error has CR or LF. */
+#define WB_LINE_END UINT32_C(14)
 /* An argument is missing, or a length is above PTRDIFF_MAX. Nothing was done. */
 #define WB_MISUSED UINT32_C(100)
 
@@ -326,6 +346,136 @@ void wb_resp_free(wb_resp_reader *reader);
 
 /* Returns a cause in a few words, in English. */
 const char *wb_resp_cause_text(uint32_t cause);
+
+/* ---- What was written */
+
+/* What a writer has written, and was not dropped. */
+typedef struct wb_written {
+    /* Its bytes. No zero follows them. */
+    const uint8_t *text;
+    /* How many these are. */
+    size_t length;
+} wb_written;
+
+/* ---- JSON, written: one value, without blanks */
+
+/* A generator of a JSON text. A call that does not say WB_OK leaves what was written as it was. */
+typedef struct wb_json_writer wb_json_writer;
+
+/* Returns a writer, or NULL when memory is refused. Values may stand within `depth` arrays and objects. A byte is kept for each that is open. */
+wb_json_writer *wb_json_writer_new(size_t depth);
+
+/* Writes `null`. */
+wb_status wb_json_write_null(wb_json_writer *writer);
+
+/* Writes `true` or `false`. */
+wb_status wb_json_write_bool(wb_json_writer *writer, bool value);
+
+/* Writes an integer. */
+wb_status wb_json_write_integer(wb_json_writer *writer, int64_t number);
+
+/* Writes a number by its text, as printf makes one with "%.17g"; WB_NO_NUMBER where JSON does not write a number so. */
+wb_status wb_json_write_number(wb_json_writer *writer, const void *text, size_t length);
+
+/* Writes a string of these bytes, which are UTF-8, and else WB_BAD_UTF8. A quote, a backslash and the control characters are escaped. */
+wb_status wb_json_write_string(wb_json_writer *writer, const void *text, size_t length);
+
+/* Writes the name of a member, whose value comes next. The bytes are as for a string. That a name is there twice is no fault. */
+wb_status wb_json_write_key(wb_json_writer *writer, const void *text, size_t length);
+
+/* Begins an array. */
+wb_status wb_json_start_array(wb_json_writer *writer);
+
+/* Ends the array that began last; WB_UNEXPECTED where an object did. */
+wb_status wb_json_end_array(wb_json_writer *writer);
+
+/* Begins an object. */
+wb_status wb_json_start_object(wb_json_writer *writer);
+
+/* Ends the object that began last; WB_UNEXPECTED where an array did, or where a value is due. */
+wb_status wb_json_end_object(wb_json_writer *writer);
+
+/* Lends what was written and not dropped, until the next call. */
+wb_status wb_json_written(wb_json_writer *writer, wb_written *written);
+
+/* Drops what was written. The text goes on after it. */
+wb_status wb_json_forget(wb_json_writer *writer);
+
+/* Returns how many arrays and objects are open; 0 without a writer. */
+size_t wb_json_writer_level(wb_json_writer *writer);
+
+/* Returns whether the text is whole: its value is written, and nothing more may come. */
+bool wb_json_is_whole(wb_json_writer *writer);
+
+/* Frees a writer, or does nothing with NULL. */
+void wb_json_writer_free(wb_json_writer *writer);
+
+/* ---- CSV, written: records that end with CR LF */
+
+/* A writer of records of comma-separated values. A call that does not say WB_OK leaves what was written as it was. */
+typedef struct wb_csv_writer wb_csv_writer;
+
+/* Returns a writer, or NULL when memory is refused. */
+wb_csv_writer *wb_csv_writer_new(void);
+
+/* Writes a field, between quotes where it has a quote, a comma, CR or LF, and after a comma where the record has a field. */
+wb_status wb_csv_write_field(wb_csv_writer *writer, const void *text, size_t length);
+
+/* Ends the record; WB_UNEXPECTED where it has no field. */
+wb_status wb_csv_end_record(wb_csv_writer *writer);
+
+/* Lends what was written and not dropped, until the next call. */
+wb_status wb_csv_written(wb_csv_writer *writer, wb_written *written);
+
+/* Drops what was written. The records go on after it. */
+wb_status wb_csv_forget(wb_csv_writer *writer);
+
+/* Returns whether the last record has ended. */
+bool wb_csv_is_whole(wb_csv_writer *writer);
+
+/* Frees a writer, or does nothing with NULL. */
+void wb_csv_writer_free(wb_csv_writer *writer);
+
+/* ---- RESP, written: replies of a Redis server, and commands to one */
+
+/* A writer of replies and commands. A call that does not say WB_OK leaves what was written as it was. */
+typedef struct wb_resp_writer wb_resp_writer;
+
+/* Returns a writer, or NULL when memory is refused. */
+wb_resp_writer *wb_resp_writer_new(void);
+
+/* Writes a simple string; WB_LINE_END where it has CR or LF. */
+wb_status wb_resp_write_simple(wb_resp_writer *writer, const void *text, size_t length);
+
+/* Writes an error; WB_LINE_END where it has CR or LF. */
+wb_status wb_resp_write_error(wb_resp_writer *writer, const void *text, size_t length);
+
+/* Writes an integer. */
+wb_status wb_resp_write_integer(wb_resp_writer *writer, int64_t number);
+
+/* Writes a bulk string. */
+wb_status wb_resp_write_bulk(wb_resp_writer *writer, const void *text, size_t length);
+
+/* Writes the null that stands for a bulk string. */
+wb_status wb_resp_write_null_bulk(wb_resp_writer *writer);
+
+/* Begins an array of this number of replies, which are written next. Nothing counts them. */
+wb_status wb_resp_write_array(wb_resp_writer *writer, size_t count);
+
+/* Writes the null that stands for an array. */
+wb_status wb_resp_write_null_array(wb_resp_writer *writer);
+
+/* Writes a command: an array of bulk strings, as redisFormatCommandArgv does. Without lengths each word ends before its first zero. */
+wb_status wb_resp_write_command(wb_resp_writer *writer, size_t count, const char *const *words, const size_t *lengths);
+
+/* Lends what was written and not dropped, until the next call. */
+wb_status wb_resp_written(wb_resp_writer *writer, wb_written *written);
+
+/* Drops what was written. */
+wb_status wb_resp_forget(wb_resp_writer *writer);
+
+/* Frees a writer, or does nothing with NULL. */
+void wb_resp_writer_free(wb_resp_writer *writer);
 
 #ifdef __cplusplus
 }

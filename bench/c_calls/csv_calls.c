@@ -1,5 +1,5 @@
 /* Calls of the C library in any order, on comma-separated values, as an input of a fuzzer says them: see json_calls.c. */
-#include "fuzz.h"
+#include "pen.h"
 
 /* Reads what a record lends, and adds it to a sum. */
 static uint64_t sum_of(const wb_csv_record *record, uint64_t sum)
@@ -31,10 +31,113 @@ static wb_status read_some(wb_csv_reader *reader, size_t most, uint64_t *sum, wb
     return status;
 }
 
+/* What a writer was given: a sum over its records, as `sum_of` has it of those that are read, and over the fields of the last one. */
+struct given {
+    struct pen pen;
+    uint64_t sum;
+    size_t fields;
+};
+
+/* All that the writer wrote are the records that it was given, if the last one has ended. */
+static void check_text(struct given *given, wb_csv_writer *writer)
+{
+    wb_written written;
+    wb_csv_record record;
+    wb_csv_limits limits = {SIZE_MAX};
+    if (writer == NULL)
+        return;
+    must(wb_csv_is_whole(writer) == (given->fields == 0));
+    if (given->fields != 0) {
+        must(wb_csv_end_record(writer) == WB_OK);
+        given->sum = given->sum * 31 + given->fields;
+    }
+    must(wb_csv_written(writer, &written) == WB_OK);
+    keep(&given->pen, written);
+    wb_csv_reader *reader = wb_csv_of(given->pen.dropped, given->pen.length, &limits);
+    must(reader != NULL);
+    uint64_t sum = 0;
+    must(read_some(reader, SIZE_MAX, &sum, &record) == WB_DONE && sum == given->sum);
+    wb_csv_free(reader);
+    clear(&given->pen);
+    given->sum = 0;
+    given->fields = 0;
+}
+
+/* Calls of a writer that are misused. */
+static void misuse(wb_csv_writer *writer)
+{
+    wb_written written;
+    must(wb_csv_write_field(writer, NULL, 1) == WB_MISUSED);
+    must(wb_csv_write_field(writer, "", (size_t)PTRDIFF_MAX + 1) == WB_MISUSED);
+    must(wb_csv_written(writer, NULL) == WB_MISUSED && wb_csv_written(NULL, &written) == WB_MISUSED);
+    must(wb_csv_end_record(NULL) == WB_MISUSED && wb_csv_forget(NULL) == WB_MISUSED && !wb_csv_is_whole(NULL));
+    /* A writer of another format says so. */
+    if (writer != NULL) {
+        must(wb_json_write_null((wb_json_writer *)writer) == WB_OTHER_FORMAT);
+        must(wb_json_writer_level((wb_json_writer *)writer) == 0);
+        must(wb_resp_write_integer((wb_resp_writer *)writer, 1) == WB_OTHER_FORMAT);
+    }
+}
+
+/* Writes a field, and adds it to the sum. */
+static wb_status write_field(struct given *given, wb_csv_writer *writer, const uint8_t *text, size_t length)
+{
+    uint8_t *copy = copy_of(text, length);
+    wb_status status = wb_csv_write_field(writer, copy, length);
+    drop_copy(copy, length);
+    must(status == WB_OK || status == WB_REFUSED);
+    if (status == WB_REFUSED)
+        return status;
+    given->fields++;
+    given->sum = given->sum * 31 + length;
+    for (size_t i = 0; i < length; i++)
+        given->sum = given->sum * 31 + text[i];
+    return status;
+}
+
+/* Ends a record, and adds it to the sum. */
+static wb_status end_record(struct given *given, wb_csv_writer *writer)
+{
+    wb_status status = wb_csv_end_record(writer);
+    must(given->fields != 0 || status == WB_UNEXPECTED);
+    if (status == WB_OK) {
+        given->sum = given->sum * 31 + given->fields;
+        given->fields = 0;
+    }
+    return status;
+}
+
+/* Carries out an order of the writer. */
+static wb_csv_writer *write_order(struct given *given, wb_csv_writer *writer, uint8_t order, const uint8_t *text, size_t length)
+{
+    wb_written written;
+    if (writer == NULL || order % 16 == 0) {
+        check_text(given, writer);
+        wb_csv_writer_free(writer);
+        misuse(NULL);
+        return wb_csv_writer_new();
+    }
+    if (order % 16 == 1)
+        misuse(writer);
+    must(wb_csv_written(writer, &written) == WB_OK);
+    if (order % 16 == 1) {
+        keep(&given->pen, written);
+        must(wb_csv_forget(writer) == WB_OK && wb_csv_written(writer, &written) == WB_OK && written.length == 0);
+        return writer;
+    }
+    look_before(&given->pen, written);
+    wb_status status = order % 16 < 6 ? end_record(given, writer) : write_field(given, writer, text, smaller((size_t)order / 16, length));
+    must(wb_csv_written(writer, &written) == WB_OK);
+    look_after(&given->pen, status, written);
+    return writer;
+}
+
 /* Carries out the orders. */
 static void follow(const uint8_t *orders, size_t count, const uint8_t *text, size_t length)
 {
     static const size_t ends[] = {0, 1, 2, 16, 512, SIZE_MAX};
+    struct given given = {0};
+    wb_csv_writer *writer = NULL;
     wb_csv_reader *reader = NULL;
     wb_csv_record record;
     uint64_t sum = 0;
@@ -42,6 +145,7 @@ static void follow(const uint8_t *orders, size_t count, const uint8_t *text, siz
     int has_ended = 0;
     for (size_t i = 0; i < count; i++) {
         size_t number = orders[i] / 8;
+        writer = write_order(&given, writer, orders[count - 1 - i], text + at, length - at);
         wb_csv_limits limits = {ends[number % 6]};
         switch (orders[i] % 8) {
         case 0:
@@ -93,6 +197,8 @@ static void follow(const uint8_t *orders, size_t count, const uint8_t *text, siz
         }
         must(wb_csv_held(reader) <= wb_csv_fed(reader));
     }
+    check_text(&given, writer);
+    wb_csv_writer_free(writer);
     wb_csv_free(reader);
 }
 

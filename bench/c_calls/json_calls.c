@@ -1,13 +1,16 @@
-/* Calls of the C library in any order, on a JSON text, as an input of a fuzzer says them.
+/* Calls of the C library in any order, on a JSON text, as an input of a fuzzer says them: of a reader, and of a writer beside it.
  *
  * The first byte of the input says how many bytes hold orders, and the rest is the text. An order is a byte: a new reader with limits at their ends,
  * a piece, the end, some events, a reader freed early, a call that is misused. In a second pass the text is read whole and in pieces, and both must
  * have the same events and the same error. Each byte that an event lends is read until the next call, so that the address sanitizer sees a
  * byte that is not there. What must hold is tested by `must`, which aborts.
  *
+ * The same orders, from the last to the first, are those of a writer, between those of the reader: a new writer, a value, a name, an end, a drop.
+ * What was written before a call stays, and a call that is refused writes nothing. All that was written is a JSON text or the beginning of one.
+ *
  * `bench/c_calls/run` builds this with libFuzzer, or with `-DSTANDALONE`, which makes its inputs itself.
  */
-#include "fuzz.h"
+#include "pen.h"
 
 /* Reads what an event lends, and adds it to a sum. */
 static uint64_t sum_of(const wb_json_event *event, uint64_t sum)
@@ -46,10 +49,95 @@ static wb_status read_some(wb_json_reader *reader, size_t most, uint64_t *sum, w
     return status;
 }
 
+/* All that the writer wrote is a text, or the beginning of one, with as many arrays and objects open as the writer says. */
+static void check_text(struct pen *pen, wb_json_writer *writer)
+{
+    wb_written written;
+    wb_json_event event;
+    wb_json_limits limits = {SIZE_MAX, SIZE_MAX};
+    if (writer == NULL)
+        return;
+    must(wb_json_written(writer, &written) == WB_OK);
+    keep(pen, written);
+    wb_json_reader *reader = wb_json_of(pen->dropped, pen->length, &limits);
+    must(reader != NULL);
+    uint64_t sum = 0;
+    wb_status status = read_some(reader, SIZE_MAX, &sum, &event);
+    must(status == (wb_json_is_whole(writer) ? WB_DONE : WB_ENDS_EARLY));
+    must(wb_json_level(reader) == wb_json_writer_level(writer));
+    wb_json_free(reader);
+    clear(pen);
+}
+
+/* Calls of a writer that are misused. */
+static void misuse(wb_json_writer *writer)
+{
+    wb_written written;
+    must(wb_json_write_string(writer, NULL, 1) == WB_MISUSED);
+    must(wb_json_write_key(writer, "", (size_t)PTRDIFF_MAX + 1) == WB_MISUSED);
+    must(wb_json_written(writer, NULL) == WB_MISUSED && wb_json_written(NULL, &written) == WB_MISUSED);
+    must(wb_json_write_null(NULL) == WB_MISUSED && wb_json_forget(NULL) == WB_MISUSED && !wb_json_is_whole(NULL));
+    /* A writer of another format says so. */
+    if (writer != NULL) {
+        must(wb_csv_write_field((wb_csv_writer *)writer, NULL, 0) == WB_OTHER_FORMAT);
+        must(wb_csv_end_record((wb_csv_writer *)writer) == WB_OTHER_FORMAT);
+        must(wb_resp_write_array((wb_resp_writer *)writer, 1) == WB_OTHER_FORMAT);
+    }
+}
+
+/* Makes the call of an order, with a text. */
+static wb_status write_one(wb_json_writer *writer, size_t order, const uint8_t *text, size_t length)
+{
+    switch (order) {
+    case 2: return wb_json_write_null(writer);
+    case 3: return wb_json_write_bool(writer, length % 2);
+    case 4: return wb_json_write_integer(writer, length < 8 ? -(int64_t)length : INT64_MIN + (int64_t)length);
+    case 5: return wb_json_write_number(writer, text, length);
+    case 6: return wb_json_start_object(writer);
+    case 7: return wb_json_end_object(writer);
+    case 8: return wb_json_start_array(writer);
+    case 9: return wb_json_end_array(writer);
+    case 10:
+    case 11: return wb_json_write_key(writer, text, length);
+    default: return wb_json_write_string(writer, text, length);
+    }
+}
+
+/* Carries out an order of the writer. */
+static wb_json_writer *write_order(struct pen *pen, wb_json_writer *writer, uint8_t order, const uint8_t *text, size_t length)
+{
+    static const size_t ends[] = {0, 1, 2, 16, 512, SIZE_MAX};
+    wb_written written;
+    if (writer == NULL || order % 16 == 0) {
+        check_text(pen, writer);
+        wb_json_writer_free(writer);
+        misuse(NULL);
+        return wb_json_writer_new(ends[order / 16 % 6]);
+    }
+    if (order % 16 == 1)
+        misuse(writer);
+    must(wb_json_written(writer, &written) == WB_OK);
+    if (order % 16 == 1) {
+        keep(pen, written);
+        must(wb_json_forget(writer) == WB_OK && wb_json_written(writer, &written) == WB_OK && written.length == 0);
+        return writer;
+    }
+    look_before(pen, written);
+    size_t size = smaller((size_t)order / 16, length);
+    uint8_t *copy = copy_of(text, size);
+    wb_status status = write_one(writer, order % 16, copy, size);
+    drop_copy(copy, size);
+    must(wb_json_written(writer, &written) == WB_OK);
+    look_after(pen, status, written);
+    return writer;
+}
+
 /* Carries out the orders. */
 static void follow(const uint8_t *orders, size_t count, const uint8_t *text, size_t length)
 {
     static const size_t ends[] = {0, 1, 2, 16, 512, SIZE_MAX};
+    struct pen pen = {0};
+    wb_json_writer *writer = NULL;
     wb_json_reader *reader = NULL;
     wb_json_event event;
     uint64_t sum = 0;
@@ -57,6 +145,7 @@ static void follow(const uint8_t *orders, size_t count, const uint8_t *text, siz
     int has_ended = 0;
     for (size_t i = 0; i < count; i++) {
         size_t number = orders[i] / 8;
+        writer = write_order(&pen, writer, orders[count - 1 - i], text + at, length - at);
         wb_json_limits limits = {ends[number % 6], ends[number / 6 % 6]};
         switch (orders[i] % 8) {
         case 0:
@@ -106,6 +195,8 @@ static void follow(const uint8_t *orders, size_t count, const uint8_t *text, siz
         must(wb_json_level(reader) <= wb_json_place(reader));
         must(wb_json_place(reader) <= wb_json_fed(reader));
     }
+    check_text(&pen, writer);
+    wb_json_writer_free(writer);
     wb_json_free(reader);
 }
 

@@ -1,5 +1,5 @@
 /* Calls of the C library in any order, on replies, as an input of a fuzzer says them: see json_calls.c. */
-#include "fuzz.h"
+#include "pen.h"
 
 /* Reads what an event lends, and adds it to a sum. */
 static uint64_t sum_of(const wb_resp_event *event, uint64_t sum)
@@ -38,10 +38,143 @@ static wb_status read_some(wb_resp_reader *reader, size_t most, uint64_t *sum, w
     return status;
 }
 
+/* What a writer was given: a number for each event that its calls have. */
+struct given {
+    struct pen pen;
+    uint64_t sums[4096];
+    size_t count;
+};
+
+/* A number for an event. */
+static uint64_t sum_of_one(uint32_t kind, const uint8_t *text, size_t length, int64_t integer, size_t count)
+{
+    uint64_t sum = kind * UINT64_C(31) + length;
+    for (size_t i = 0; i < length; i++)
+        sum = sum * 31 + text[i];
+    return (sum * 31 + (uint64_t)integer) * 31 + count;
+}
+
+static void add(struct given *given, uint64_t sum)
+{
+    if (given->count < sizeof given->sums / sizeof given->sums[0])
+        given->sums[given->count++] = sum;
+}
+
+/* All that the writer wrote has the events that it was given, up to what is too deep or is not written yet. */
+static void check_text(struct given *given, wb_resp_writer *writer)
+{
+    wb_written written;
+    wb_resp_event event;
+    wb_resp_limits limits = {64, SIZE_MAX, SIZE_MAX};
+    if (writer == NULL)
+        return;
+    must(wb_resp_written(writer, &written) == WB_OK);
+    keep(&given->pen, written);
+    wb_resp_reader *reader = wb_resp_of(given->pen.dropped, given->pen.length, &limits);
+    must(reader != NULL);
+    wb_status status;
+    size_t read = 0;
+    while ((status = wb_resp_next(reader, &event)) == WB_OK) {
+        if (event.kind == WB_RESP_END_ARRAY)
+            continue;
+        must(read < given->count && given->sums[read] == sum_of_one(event.kind, event.text, event.length, event.integer, event.count));
+        read++;
+    }
+    must(status == WB_DONE || status == WB_ENDS_EARLY || status == WB_TOO_DEEP);
+    must(status == WB_TOO_DEEP || read == given->count);
+    wb_resp_free(reader);
+    clear(&given->pen);
+    given->count = 0;
+}
+
+/* Calls of a writer that are misused. */
+static void misuse(wb_resp_writer *writer)
+{
+    static const char *const words[] = {"a", NULL};
+    static const size_t lengths[] = {1, 1};
+    wb_written written;
+    must(wb_resp_write_bulk(writer, NULL, 1) == WB_MISUSED);
+    must(wb_resp_write_simple(writer, "", (size_t)PTRDIFF_MAX + 1) == WB_MISUSED);
+    must(wb_resp_write_command(writer, 1, NULL, NULL) == WB_MISUSED && wb_resp_write_command(writer, 2, words, lengths) != WB_OK);
+    must(wb_resp_written(writer, NULL) == WB_MISUSED && wb_resp_written(NULL, &written) == WB_MISUSED);
+    must(wb_resp_write_array(NULL, 1) == WB_MISUSED && wb_resp_forget(NULL) == WB_MISUSED);
+    /* A writer of another format says so. */
+    if (writer != NULL) {
+        must(wb_json_end_array((wb_json_writer *)writer) == WB_OTHER_FORMAT);
+        must(wb_csv_end_record((wb_csv_writer *)writer) == WB_OTHER_FORMAT);
+    }
+}
+
+/* Writes a command of two words. */
+static wb_status write_command(struct given *given, wb_resp_writer *writer, const uint8_t *text, size_t length)
+{
+    const char *words[] = {(const char *)text, (const char *)text};
+    size_t lengths[] = {length, length / 2};
+    wb_status status = wb_resp_write_command(writer, 2, words, lengths);
+    if (status == WB_OK) {
+        add(given, sum_of_one(WB_RESP_START_ARRAY, NULL, 0, 0, 2));
+        add(given, sum_of_one(WB_RESP_BULK, text, length, 0, 0));
+        add(given, sum_of_one(WB_RESP_BULK, text, length / 2, 0, 0));
+    }
+    return status;
+}
+
+/* Makes the call of an order, with a text, and keeps what event it has. */
+static wb_status write_one(struct given *given, wb_resp_writer *writer, size_t order, const uint8_t *text, size_t length)
+{
+    static const uint32_t kinds[] = {WB_RESP_INTEGER, WB_RESP_NULL_BULK, WB_RESP_NULL_ARRAY, WB_RESP_START_ARRAY, WB_RESP_SIMPLE, WB_RESP_ERROR, WB_RESP_BULK};
+    int64_t number = length % 2 ? -(int64_t)length : INT64_MAX - (int64_t)length;
+    wb_status status;
+    switch (order) {
+    case 0: status = wb_resp_write_integer(writer, number); break;
+    case 1: status = wb_resp_write_null_bulk(writer); break;
+    case 2: status = wb_resp_write_null_array(writer); break;
+    case 3: status = wb_resp_write_array(writer, length); break;
+    case 4: status = wb_resp_write_simple(writer, text, length); break;
+    case 5: status = wb_resp_write_error(writer, text, length); break;
+    case 6: status = wb_resp_write_bulk(writer, text, length); break;
+    default: return write_command(given, writer, text, length);
+    }
+    must(status == WB_OK || status == WB_REFUSED || (status == WB_LINE_END && (order == 4 || order == 5)));
+    if (status == WB_OK)
+        add(given, sum_of_one(kinds[order], text, order >= 4 ? length : 0, order == 0 ? number : 0, order == 3 ? length : 0));
+    return status;
+}
+
+/* Carries out an order of the writer. */
+static wb_resp_writer *write_order(struct given *given, wb_resp_writer *writer, uint8_t order, const uint8_t *text, size_t length)
+{
+    wb_written written;
+    if (writer == NULL || order % 16 == 0) {
+        check_text(given, writer);
+        wb_resp_writer_free(writer);
+        misuse(NULL);
+        return wb_resp_writer_new();
+    }
+    if (order % 16 == 1)
+        misuse(writer);
+    must(wb_resp_written(writer, &written) == WB_OK);
+    if (order % 16 == 1) {
+        keep(&given->pen, written);
+        must(wb_resp_forget(writer) == WB_OK && wb_resp_written(writer, &written) == WB_OK && written.length == 0);
+        return writer;
+    }
+    look_before(&given->pen, written);
+    size_t size = smaller((size_t)order / 16, length);
+    uint8_t *copy = copy_of(text, size);
+    wb_status status = write_one(given, writer, order % 8, copy, size);
+    drop_copy(copy, size);
+    must(wb_resp_written(writer, &written) == WB_OK);
+    look_after(&given->pen, status, written);
+    return writer;
+}
+
 /* Carries out the orders. */
 static void follow(const uint8_t *orders, size_t count, const uint8_t *text, size_t length)
 {
     static const size_t ends[] = {0, 1, 2, 16, 512, SIZE_MAX};
+    struct given given = {0};
+    wb_resp_writer *writer = NULL;
     wb_resp_reader *reader = NULL;
     wb_resp_event event;
     uint64_t sum = 0;
@@ -49,6 +182,7 @@ static void follow(const uint8_t *orders, size_t count, const uint8_t *text, siz
     int has_ended = 0;
     for (size_t i = 0; i < count; i++) {
         size_t number = orders[i] / 8;
+        writer = write_order(&given, writer, orders[count - 1 - i], text + at, length - at);
         wb_resp_limits limits = {ends[number % 6], ends[number / 2 % 6], ends[number / 6 % 6]};
         switch (orders[i] % 8) {
         case 0:
@@ -103,6 +237,8 @@ static void follow(const uint8_t *orders, size_t count, const uint8_t *text, siz
         must(wb_resp_level(reader) <= wb_resp_place(reader));
         must(wb_resp_place(reader) <= wb_resp_fed(reader));
     }
+    check_text(&given, writer);
+    wb_resp_writer_free(writer);
     wb_resp_free(reader);
 }
 

@@ -41,7 +41,7 @@ static unsigned char *bytes_of(const char *name, size_t *length)
 }
 
 /* Returns a copy of a piece, so that a read past its end is seen, and one after it is pushed. */
-static unsigned char *copy_of(const unsigned char *piece, size_t size)
+static inline unsigned char *copy_of(const unsigned char *piece, size_t size)
 {
     unsigned char *copy = malloc(size);
     if (copy == NULL)
@@ -52,7 +52,7 @@ static unsigned char *copy_of(const unsigned char *piece, size_t size)
 }
 
 /* Prints bytes in hexadecimal digits. */
-static void print_hex(const unsigned char *bytes, size_t length)
+static inline void print_hex(const unsigned char *bytes, size_t length)
 {
     for (size_t i = 0; i < length; i++)
         printf("%02x", bytes[i]);

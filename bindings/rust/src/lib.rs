@@ -1,4 +1,4 @@
-//! Readers of formats over input that comes in pieces, over the C library `woldbraid`. A user writes no `unsafe`.
+//! Readers of formats over input that comes in pieces, and writers of them, over the C library `woldbraid`. A user writes no `unsafe`.
 //!
 //! ```no_run
 //! use woldbraid::{Event, JsonReader, Next};
@@ -11,6 +11,18 @@
 //! ```
 //!
 //! [`json_events`] iterates over the events of a source such as a file.
+//!
+//! ```no_run
+//! let mut writer = woldbraid::JsonWriter::new(512).unwrap();
+//! writer.start_array().unwrap();
+//! writer.integer(7).unwrap();
+//! writer.end_array().unwrap();
+//! println!("{}", String::from_utf8_lossy(writer.written()));
+//! ```
+
+mod writers;
+
+pub use writers::{CsvWriter, JsonWriter, RespWriter};
 
 use std::ffi::{c_char, CStr};
 use std::fmt;
@@ -20,7 +32,7 @@ use std::ptr::NonNull;
 
 /// What the C library has of a reader.
 #[repr(C)]
-struct Opaque {
+pub(crate) struct Opaque {
     _bytes: [u8; 0],
 }
 
@@ -145,13 +157,13 @@ pub struct Error {
     is_of_reply: bool,
 }
 
-const OK: u32 = 0;
+pub(crate) const OK: u32 = 0;
 const DONE: u32 = 1;
 const NEEDS_MORE: u32 = 2;
 const REFUSED: u32 = 6;
 
 impl Error {
-    fn of(status: u32) -> Self {
+    pub(crate) fn of(status: u32) -> Self {
         Error { status, cause: 0, place: 0, is_of_reply: false }
     }
 

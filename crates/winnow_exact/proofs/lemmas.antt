@@ -7,3 +7,4 @@ pub mod ChainLemmas
 pub mod OptLemmas
 pub mod RowLemmas
 pub mod SeparatedLemmas
+pub mod VerifyLemmas

@@ -1,2 +1,4 @@
 pub mod Handles
 pub mod Calls
+pub mod WriterHandles
+pub mod Writing

@@ -1,0 +1,6 @@
+pub mod Codes
+pub mod Drafts
+pub mod Records
+pub mod Replies
+pub mod Lending
+pub mod WriterCalls
