@@ -1,2 +1,4 @@
 pub mod AppendLemmas
 pub mod RecordLemmas
+pub mod TextCallLemmas
+pub mod TextLemmas

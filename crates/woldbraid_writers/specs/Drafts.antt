@@ -1,6 +1,8 @@
 -- A JSON text that is being written, and what each call makes of it. 44 is a comma, 58 a colon, 91
 -- and 93 are the brackets of an array, 123 and 125 those of an object.
-use Rattle.std.specs.Prelude.{◌≡◌, ℕ, ◌-◌, nat_lt, Bool, true, false, if◌then◌else◌, List, [], ◌∷◌, ◌++◌, length, take, slice_get, Option, Some, None, IsUtf8, ⊤}
+use Rattle.std.specs.Prelude.{◌≡◌, ℕ, ℤ, ◌-◌, nat_lt, Bool, true, false, if◌then◌else◌, List, [], ◌∷◌, ◌++◌, length, take, slice_get, Option, Some, None, IsUtf8, ◌⊎◌, ⊤}
+use Rattle.std.specs.Fmt.{signed_decimal}
+use Rattle.format_json.specs.Language.{null_word, bool_word}
 use Rattle.format_json_scalars.specs.Numbers.{IsNumber}
 use Rattle.format_json_scalars.specs.Quoting.{written_string}
 use Rattle.woldbraid_writers.specs.declared.due.Bracket.{Bracket}
@@ -132,9 +134,14 @@ pub data Call : Type 0 where
   Start : Bracket → Call
   Finish : Bracket → Call
 
--- JSON has it: a number is one, a string and a name are UTF-8
+-- null, true or false, or an integer
+abbrev pub IsWord : List ℕ → Type 0
+IsWord text =
+    (text ≡ null_word) ⊎ (((b : Bool) × (text ≡ bool_word b)) ⊎ ((n : ℤ) × (text ≡ signed_decimal n)))
+
+-- JSON has it: a word is one, a number is one, a string and a name are UTF-8
 abbrev pub IsSound : Call → Type 0
-IsSound (Word text) = ⊤
+IsSound (Word text) = IsWord text
 IsSound (Number text) = IsNumber text
 IsSound (Quoted text) = IsUtf8 text
 IsSound (Name text) = IsUtf8 text
@@ -188,3 +195,16 @@ IsWhyNot d call other = ⊥
 abbrev pub Writes : Draft → Call → Status → Draft → Type 0
 Writes d call status.Ok e = (bar d call ≡ None) × IsSound call × (e ≡ after_call d call)
 Writes d call s e = (e ≡ d) × IsWhyNot d call s
+
+-- why a value was not written
+abbrev pub IsWhyNoValue : Draft → Status → Type 0
+IsWhyNoValue d status.Unexpected = value_bar d ≡ Some status.Unexpected
+IsWhyNoValue d status.TooDeep = value_bar d ≡ Some status.TooDeep
+IsWhyNoValue d status.Refused = ⊤
+IsWhyNoValue d other = ⊥
+
+-- a value was written, by this text, and may come there; or nothing was, for the reason of the
+-- status
+abbrev pub AddsValue : Draft → List ℕ → Status → Draft → Type 0
+AddsValue d text status.Ok e = (value_bar d ≡ None) × (e ≡ value_added d text)
+AddsValue d text s e = (e ≡ d) × IsWhyNoValue d s

@@ -1,5 +1,6 @@
 pub mod Codes
 pub mod Drafts
+pub mod Texts
 pub mod Records
 pub mod Replies
 pub mod Lending

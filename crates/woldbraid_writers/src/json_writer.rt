@@ -4,7 +4,8 @@ ghost use Rattle.std.specs.Prelude.{◌≡◌, length};
 ghost use Rattle.std.specs.Fmt.{signed_decimal};
 ghost use Rattle.format_json.specs.Language.{null_word, bool_word};
 ghost use Rattle.woldbraid_writers.specs.Drafts.{draft_of, new_draft, after_value};
-ghost use Rattle.woldbraid_writers.specs.Drafts.{deep_bar, value_bar, name_bar, Writes};
+ghost use Rattle.woldbraid_writers.specs.Drafts.{deep_bar, value_bar, name_bar};
+ghost use Rattle.woldbraid_writers.specs.Drafts.{Writes, AddsValue};
 ghost use Rattle.woldbraid_writers.specs.Drafts.{Word, Number, Quoted, Name, Start, Finish};
 ghost use Rattle.woldbraid_writers.specs.Lending.{is_whole, Forgets, Lends};
 
@@ -189,7 +190,7 @@ impl JsonWriter {
 
     // Writes a value by its text.
     fn add_word(&mut self, text: &[u8]) -> Status
-        ensures { Writes (draft_of self.old) (Word text.now) result (draft_of self.new) }
+        ensures { AddsValue (draft_of self.old) text.now result (draft_of self.new) }
     {
         if let Some(status) = self.value_bar() {
             return status;

@@ -1,7 +1,10 @@
-//! The law of records: what the calls for a record write.
+//! The laws of texts: what the calls for a whole JSON text write, and those for a record.
 
 ghost use Rattle.std.specs.Prelude.{◌≡◌, ℕ, List, [], ◌∷◌, ◌++◌};
 ghost use Rattle.format_csv.specs.Writing.{written_record};
+ghost use Rattle.woldbraid_writers.specs.Drafts.{Call, Draft, new_draft};
+ghost use Rattle.woldbraid_writers.specs.Texts.{Passage, Leads, IsText, whole_draft, preceded};
+ghost use Rattle.woldbraid_writers.specs.declared.due.Due.TheVariants.{Nothing};
 ghost use Rattle.woldbraid_writers.specs.Records.{after_entries, entries_of, ended_table};
 
 /// The law of records: after the calls for the fields of a record and for its end, what was written
@@ -12,4 +15,19 @@ pub fn record_law()
     ensures { (text field : List ℕ) (fields : List (List ℕ))
         → after_entries (ended_table text) (entries_of (field ∷ fields))
         ≡ ended_table (text ++ (written_record (field ∷ fields) ++ 13 ∷ 10 ∷ [])) }
+{}
+
+/// The law of JSON texts: calls that may come one after the other, and lead to a text that is
+/// whole, have written one value, within the limit on depth; the calls of each such value may come,
+/// and write it; and what is dropped between two calls changes neither which calls may come nor
+/// what they write. A law does nothing when called: its contract is the law.
+///
+/// Names of an object that are the same are no fault.
+pub fn whole_text_law()
+    ensures whole { (depth : ℕ) (calls : List Call) (d : Draft) → Leads (new_draft depth) calls d
+        → d.due ≡ Nothing → IsText depth (record { calls = calls; text = d.text }) }
+    ensures comes { (depth : ℕ) (p : Passage) → IsText depth p
+        → Leads (new_draft depth) p.calls (whole_draft depth p.text) }
+    ensures dropped { (kept : List ℕ) (d e : Draft) (calls : List Call) → Leads d calls e
+        → Leads (preceded kept d) calls (preceded kept e) }
 {}
