@@ -1,4 +1,5 @@
 pub mod AppendLemmas
 pub mod RecordLemmas
+pub mod ReplyLemmas
 pub mod TextCallLemmas
 pub mod TextLemmas

@@ -1,9 +1,15 @@
-//! The laws of texts: what the calls for a whole JSON text write, and those for a record.
+//! The laws of texts: what the calls for a whole JSON text write, those for a record, and those
+//! for a reply.
 
-ghost use Rattle.std.specs.Prelude.{◌≡◌, ℕ, List, [], ◌∷◌, ◌++◌};
+ghost use Rattle.std.specs.Prelude.{◌≡◌, ℕ, true, List, [], ◌∷◌, ◌++◌};
+ghost use Rattle.std.specs.List.{All};
 ghost use Rattle.format_csv.specs.Writing.{written_record};
+ghost use Rattle.format_resp.specs.Writing.{written, is_writable};
 ghost use Rattle.woldbraid_writers.specs.Drafts.{Call, Draft, new_draft};
 ghost use Rattle.woldbraid_writers.specs.Texts.{Passage, Leads, IsText, whole_draft, preceded};
+ghost use Rattle.woldbraid_writers.specs.Replies.{IsWritable};
+ghost use Rattle.woldbraid_writers.specs.WholeReplies.{parts_of, parts_text};
+ghost use Rattle.format_resp.specs.declared.reply.Reply.{Reply};
 ghost use Rattle.woldbraid_writers.specs.declared.due.Due.TheVariants.{Nothing};
 ghost use Rattle.woldbraid_writers.specs.Records.{after_entries, entries_of, ended_table};
 
@@ -30,4 +36,12 @@ pub fn whole_text_law()
         → Leads (new_draft depth) p.calls (whole_draft depth p.text) }
     ensures dropped { (kept : List ℕ) (d e : Draft) (calls : List Call) → Leads d calls e
         → Leads (preceded kept d) calls (preceded kept e) }
+{}
+
+/// The law of replies: the calls for a reply, an array by its head and then its replies, write it
+/// as [`write_reply`](format_resp::write_reply) does; and where that can write it, none of the
+/// calls is refused for a line end. A law does nothing when called: its contract is the law.
+pub fn whole_reply_law()
+    ensures text { (r : Reply) → parts_text (parts_of r) ≡ written r }
+    ensures writable { (r : Reply) → is_writable r ≡ true → All IsWritable (parts_of r) }
 {}

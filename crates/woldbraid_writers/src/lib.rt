@@ -20,7 +20,7 @@ mod written;
 pub use csv_writer::CsvWriter;
 pub use due::{Bracket, Due};
 pub use json_writer::JsonWriter;
-pub use laws::{record_law, whole_text_law};
+pub use laws::{record_law, whole_reply_law, whole_text_law};
 pub use resp_writer::RespWriter;
 pub use status::Status;
 pub use writer::Writer;
