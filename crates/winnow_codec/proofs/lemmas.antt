@@ -7,6 +7,7 @@ pub mod Literals
 pub mod Parts
 pub mod Reading
 pub mod RoundTrips
+pub mod SignedLemmas
 pub mod Tags
 pub mod Wholes
 pub mod Words

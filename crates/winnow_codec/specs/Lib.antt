@@ -17,6 +17,7 @@ pub mod Nibbles
 pub mod Orders
 pub mod RoundTrips
 pub mod Signed
+pub mod SignedDecimals
 pub mod Verified
 pub mod WholeFormats
 pub mod Writing
