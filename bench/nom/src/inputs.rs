@@ -48,3 +48,9 @@ pub fn floats(length: usize) -> Vec<u8> {
     }
     text
 }
+
+/// Bytes that look random, whole records of nine.
+pub fn records(length: usize) -> Vec<u8> {
+    let mut random = Random(4);
+    (0..length / 9 * 9).map(|_| random.below(256) as u8).collect()
+}

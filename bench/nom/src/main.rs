@@ -71,6 +71,7 @@ fn rows(length: usize) -> Vec<Row> {
     let alike = b"word".repeat(length / 4);
     let names = inputs::names(length);
     let floats = inputs::floats(length);
+    let records = inputs::records(length);
     let row = |name: &str, input: &[u8], ways| Row { name: name.to_string(), input: input.to_vec(), ways };
     use ours::{by_hand, partial, partial_by_hand, whole};
     use theirs::{parts, partial as streaming, whole as complete};
@@ -89,6 +90,8 @@ fn rows(length: usize) -> Vec<Row> {
         row("alt of an array", &names, [whole::alt_of_array, by_hand::alt_of_array, parts::alt]),
         row("verify_fold", &text, [whole::verify_fold, by_hand::verify_fold, parts::verify_fold]),
         row("float", &floats, [whole::float, by_hand::float, parts::float]),
+        row("record of four numbers", &records, [whole::records, by_hand::records, parts::records]),
+        row("record of four numbers, written", &records, [whole::records_written, by_hand::records_written, parts::records_written]),
         row("any, more may follow", &text, [partial::any, partial_by_hand::any, streaming::any]),
         row("one_of, more may follow", &text, [partial::one_of, partial_by_hand::one_of, streaming::one_of]),
         row("literal, more may follow", &alike, [partial::literal, partial_by_hand::literal, streaming::literal]),

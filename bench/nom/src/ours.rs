@@ -17,6 +17,7 @@ pub mod whole {
     workloads! {
         winnow_bench_parse_tokens { any = 0 one_of = 1 literal = 2 take = 3 take_while = 4 take_till = 5 take_until = 6 }
         winnow_bench_parse_parts { alt = 0 repeat_count = 1 repeat_vec = 2 separated = 3 alt_of_array = 4 verify_fold = 5 float = 6 }
+        winnow_bench_parse_records { records = 0 records_written = 1 }
     }
 }
 
@@ -32,6 +33,7 @@ pub mod by_hand {
     workloads! {
         winnow_bench_by_hand_tokens { any = 0 one_of = 1 literal = 2 take = 3 take_while = 4 take_till = 5 take_until = 6 }
         winnow_bench_by_hand_parts { alt = 0 repeat_count = 1 repeat_vec = 2 separated = 3 alt_of_array = 4 verify_fold = 5 float = 6 }
+        winnow_bench_by_hand_records { records = 0 records_written = 1 }
     }
 }
 

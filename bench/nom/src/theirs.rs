@@ -5,7 +5,7 @@ use nom::bytes::complete as bytes;
 use nom::character::complete as character;
 use nom::multi::{fold_many0, many0, many0_count, separated_list0};
 use nom::number::complete as number;
-use nom::sequence::terminated;
+use nom::sequence::{terminated, tuple};
 use nom::{IResult, Parser};
 
 // What a parser gave, as a number.
@@ -52,6 +52,17 @@ impl Value for &[u8] {
 impl Value for Vec<&[u8]> {
     fn value(&self) -> u64 {
         self.last().map_or(0, |last| self.len() as u64 ^ last.value())
+    }
+}
+
+// The fields of a record of nine bytes.
+type Record = (u16, u32, u8, u16);
+
+impl Value for Record {
+    fn value(&self) -> u64 {
+        let (first, second, third, fourth) = *self;
+        let mix = |sum: u64, number: u64| number.wrapping_sub(sum);
+        mix(mix(first.into(), second.into()), mix(third.into(), fourth.into()))
     }
 }
 
@@ -154,6 +165,22 @@ pub mod parts {
 
     pub fn float(input: &[u8]) -> u64 {
         sum_values(input, terminated(number::double, number::u8))
+    }
+
+    pub fn records(input: &[u8]) -> u64 {
+        sum_values(input, tuple((number::be_u16, number::be_u32, number::u8, number::be_u16)))
+    }
+
+    /// nom has no writer: by Rust's own vector.
+    pub fn records_written(input: &[u8]) -> u64 {
+        let mut bytes = Vec::new();
+        for turn in 0..input.len() / 9 {
+            bytes.extend_from_slice(&(turn as u16).to_be_bytes());
+            bytes.extend_from_slice(&(turn as u32).to_be_bytes());
+            bytes.push(turn as u8);
+            bytes.extend_from_slice(&(turn as u16).to_be_bytes());
+        }
+        bytes.as_slice().value()
     }
 
     pub fn separated(input: &[u8]) -> u64 {

@@ -20,7 +20,7 @@ use example_base::{Driven, Trouble, drive, new_buffer};
 use format_json_events::{EventError, EventReader, events_law};
 use std::alloc::Global;
 use std::io::{Read, Write};
-use winnow::reader::Next;
+use winnow_reader::Next;
 
 /// What is kept of the input beside the reader.
 #[derive(Clone, Copy, Debug, Drop)]

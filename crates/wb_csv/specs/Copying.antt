@@ -2,8 +2,8 @@
 use Rattle.std.specs.Prelude.{◌≡◌, ◌≢◌, ℕ, ◌+◌, ◌<◌, ◌^◌, Bool, true, false, List, [], ◌∷◌, ◌++◌, length, Option, None, Some, IfSome, Result, Ok, Err, ◌⊎◌, ⊤}
 use Rattle.std.specs.List.{flat_map}
 use Rattle.std.specs.Io.KnownBytes.{Appends}
-use Rattle.winnow.specs.State.{ReaderState, fed_of}
-use Rattle.winnow.specs.Reading.{MayFollow}
+use Rattle.winnow_reader.specs.State.{ReaderState, fed_of}
+use Rattle.winnow_reader.specs.Reading.{MayFollow}
 use Rattle.format_csv.specs.Language.{RecordAhead}
 use Rattle.format_csv.specs.Tables.{AreRecords, HasNoRecord, IsDamagedAt}
 use Rattle.format_csv.specs.Marks.{HasText, IsRefused}

@@ -2,7 +2,7 @@
 
 ghost use Rattle.std.specs.Prelude.{◌≡◌, ◌+◌, ◌-◌, ◌≤◌, ◌<◌, ◌^◌, true, [], length, take, drop};
 ghost use Rattle.std.specs.Prelude.{OnOk, IfErr};
-ghost use Rattle.winnow.specs.State.{fed_of};
+ghost use Rattle.winnow_reader.specs.State.{fed_of};
 ghost use Rattle.csv.specs.Records.{fields_of};
 ghost use Rattle.wb_csv.specs.Copying.{IsOfInput, IsDamageAfter, IsBegun, ReadsLines, StopsAfter};
 
@@ -13,7 +13,7 @@ use crate::settings::Settings;
 use example_base::Trouble;
 use format_csv::{ByteRecord, RowError, RowReader};
 use wb_base::{Excerpt, position_after};
-use winnow::reader::Next;
+use winnow_reader::Next;
 
 /// Reads until there is no record, and appends the line of each to an empty text.
 pub fn read_records(

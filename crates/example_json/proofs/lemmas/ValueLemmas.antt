@@ -2,7 +2,7 @@
 use Rattle.std.proofs.Common.{◌≡◌, ℕ, ◌*◌, replicate, Bool, true, false, List, [], ◌∷◌, ◌++◌, refl, ap, sym, ◌∙◌, subst, inl, inr, append-nil}
 use Rattle.std.specs.Prelude.{min, Option, None, Some, IfSome, Result, Ok, Err, OnOk, IfErr}
 use Rattle.std.specs.Io.KnownBytes.{Appends}
-use Rattle.winnow.specs.Reading.{MayFollow}
+use Rattle.winnow_reader.specs.Reading.{MayFollow}
 use Rattle.format_json.specs.Quoting.{written_string}
 use Rattle.format_json.specs.Language.{bool_word}
 use Rattle.format_json.specs.SameValues.{SameAll}

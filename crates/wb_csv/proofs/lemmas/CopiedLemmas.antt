@@ -4,8 +4,8 @@ use Rattle.std.specs.Prelude.{Option, Result, Ok, Err, OnOk, IfErr}
 use Rattle.std.specs.Io.KnownBytes.{Keeps, Appends}
 use Rattle.std.proofs.lemmas.List.{append-nil}
 use Rattle.std.proofs.lemmas.Grind.{flat_map-append}
-use Rattle.winnow.specs.State.{ReaderState, pushed, ended_after, fed_of}
-use Rattle.winnow.specs.Reading.{MayFollow}
+use Rattle.winnow_reader.specs.State.{ReaderState, pushed, ended_after, fed_of}
+use Rattle.winnow_reader.specs.Reading.{MayFollow}
 use Rattle.format_csv.specs.Tables.{AreRecords}
 use Rattle.format_csv.specs.RowReader.{HasRead, ReadsAlso, ReadsThrough}
 use Rattle.format_csv.specs.declared.grammar.Row.{Row}

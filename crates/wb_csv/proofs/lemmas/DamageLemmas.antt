@@ -3,8 +3,8 @@ use Rattle.std.proofs.Common.{◌≡◌, ◌≢◌, ℕ, ◌+◌, ◌-◌, ◌�
 use Rattle.std.specs.Prelude.{Option, None, Some, IfSome}
 use Rattle.std.proofs.Math.Seq.{drop-append_seam}
 use Rattle.std.proofs.lemmas.List.{append-nil, take-append-drop, drop_all}
-use Rattle.winnow.specs.State.{ReaderState, fed_of}
-use Rattle.winnow.specs.Reading.{MayFollow}
+use Rattle.winnow_reader.specs.State.{ReaderState, fed_of}
+use Rattle.winnow_reader.specs.Reading.{MayFollow}
 use Rattle.format_lemmas.specs.Bytes.{Each}
 use Rattle.format_csv.specs.Fields.{is_plain, doubled}
 use Rattle.format_csv.specs.Language.{SpellsMore, SpellsRecord, RecordAhead}

@@ -6,7 +6,7 @@ use Rattle.std.proofs.lemmas.List.Elements.{All-push}
 use Rattle.std.proofs.lemmas.List.Sums.{sum_by_push}
 use Rattle.std.proofs.lemmas.Grind.{flat_map-append}
 use Rattle.csv.specs.Records.{AllText}
-use Rattle.winnow.specs.State.{ReaderState, pushed, ended_after, taken_by, fed_of}
+use Rattle.winnow_reader.specs.State.{ReaderState, pushed, ended_after, taken_by, fed_of}
 use Rattle.format_csv.specs.RowReader.{HasRead, ReadsAlso, ReadsThrough}
 use Rattle.format_csv.specs.declared.grammar.Row.{Row}
 use Rattle.format_csv.proofs.lemmas.ReaderLemmas.{none-follows}

@@ -3,7 +3,7 @@ use Rattle.std.proofs.Common.{◌≡◌, ℕ, ◌+◌, Bool, true, false, List, 
 use Rattle.std.proofs.lemmas.List.{append-nil}
 use Rattle.std.specs.Prelude.{Option, None, Some, IfSome, Result, Ok, Err, OnOk, IfErr}
 use Rattle.std.specs.Io.KnownBytes.{Consumes, IsAtEnd, prepend_known}
-use Rattle.winnow.specs.Reading.{MayFollow}
+use Rattle.winnow_reader.specs.Reading.{MayFollow}
 use Rattle.format_csv.specs.Marks.{HasText, IsRefused, BeginsText, RefusesText}
 use Rattle.format_csv.specs.declared.marks.Mark.{Mark}
 use Rattle.wb_csv.specs.Copying.{CopiesAll, CopiesUntil, TellsText, StopsInput}

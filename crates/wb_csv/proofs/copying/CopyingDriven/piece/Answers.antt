@@ -1,5 +1,5 @@
 use Rattle.std.proofs.Common.{sym, ap, ◌∙◌}
-use Rattle.winnow.specs.State.{ReaderState}
+use Rattle.winnow_reader.specs.State.{ReaderState}
 use Rattle.wb_csv.proofs.lemmas.CopiedLemmas.{begun-pushed, begun-written, begun-same, copies-piece, stops-piece, writes-same, stops-same, on-three, if-err}
 use Rattle.wb_csv.proofs.copying.CopyingDriven.piece.Goals as goal
 
