@@ -35,21 +35,29 @@ Reads spells partial a (Fails (Cuts b)) = ⊥
 Reads spells partial a (Fails (Needs n)) = (partial ≡ true) × SpellsNone spells false (bytes_of a.tokens)
 Reads spells partial a (Fails Refuses) = ⊤
 
--- the laws of a format: a value has one spelling, and where two spellings stand at the front of the
--- same bytes, they are one, and their values are the same
+-- where two spellings stand at the front of the same bytes, they are one, and their values are the
+-- same
+abbrev pub IsPrefixFree : {V : Type 0} → (V → V → Type 0) → Spelling V → Type 0
+IsPrefixFree {V} same spells = (v w : V) (bytes others rest left : List ℕ) → spells v bytes → spells w others
+    → bytes ++ rest ≡ others ++ left → same v w × (bytes ≡ others)
+
+-- the laws of a format: a value has one spelling, and no spelling is the front of another's
 pub record IsFormat {V : Type 0} (same : V → V → Type 0) (spells : Spelling V) : Type 0 where
   pub canonical : (v : V) (bytes others : List ℕ) → spells v bytes → spells v others
       → bytes ≡ others
-  pub prefix_free : (v w : V) (bytes others rest left : List ℕ) → spells v bytes → spells w others
-      → bytes ++ rest ≡ others ++ left → same v w × (bytes ≡ others)
+  pub prefix_free : IsPrefixFree same spells
 
 -- both are one
 abbrev pub IsEqual : {V : Type 0} → V → V → Type 0
 IsEqual v w = v ≡ w
 
+-- values that are the same are equal
+abbrev pub IsExact : {V : Type 0} → (V → V → Type 0) → Type 0
+IsExact {V} same = (v w : V) → same v w → v ≡ w
+
 -- a format whose values are the same only where they are equal
 pub IsFormat-Exact : {V : Type 0} (same : V → V → Type 0) (spells : Spelling V)
-    → ((v w : V) → same v w → v ≡ w) → IsFormat same spells → IsFormat IsEqual spells
+    → IsExact same → IsFormat same spells → IsFormat IsEqual spells
 IsFormat-Exact same spells exact f = record {
   canonical = f.canonical;
   prefix_free = λ v w b c r s h k e. let p = f.prefix_free v w b c r s h k e in (exact v w p.0, p.1);

@@ -1,9 +1,13 @@
+pub mod Alignment
 pub mod Byte
 pub mod Bytes
 pub mod Cases
+pub mod CasesOfAny
 pub mod Checks
 pub mod Decimals
+pub mod Either
 pub mod EndMarks
+pub mod Exactness
 pub mod FormatNumbers
 pub mod FormatParts
 pub mod FormatRows
@@ -15,6 +19,7 @@ pub mod Lists
 pub mod Literals
 pub mod Nibbles
 pub mod Orders
+pub mod Presence
 pub mod RoundTrips
 pub mod Signed
 pub mod SignedDecimals

@@ -119,3 +119,15 @@ where
         }
     }
 }
+
+impl<F: Exact, C: Exact, K: Check<Code = C::Value>> Exact for CheckedBy<F, C, K>
+where
+    F::Value: Drop,
+    C::Value: Drop,
+{
+    ghost exact = { F.exact };
+
+    fn equal(left: &F::Value, right: &F::Value) -> bool {
+        F::equal(left, right)
+    }
+}

@@ -1,6 +1,7 @@
 //! Values by a code: `Coded`, `by_code_of`.
 
 ghost use Rattle.std.specs.Prelude.{◌≡◌, MatchOption};
+ghost use Rattle.winnow_codec.specs.Exactness.{TellsByParts, IsExact-Parts};
 ghost use Rattle.winnow_codec.specs.FormatParts.{SpellsParts, HaveSameParts, IsFormat-Parts};
 
 use crate::{Exact, Format, Unwritten};
@@ -23,6 +24,13 @@ pub trait Coded<C>: Sized {
     /// Returns the code of the value.
     fn to_code(&self) -> C
         ensures { result ≡ code self.now };
+}
+
+/// A type of which each value has a code of its own. Then the values of its format are compared
+/// ([`Exact`]).
+pub trait ExactCoded<C>: Coded<C> {
+    // Values of the same code are equal.
+    ghost tells: { TellsByParts Self.code };
 }
 
 /// The format of a value that is spelled as its code is; [`by_code_of`] makes it.
@@ -70,5 +78,16 @@ where
 
     fn write(&self, value: &T, bytes: &mut Vec<u8>) -> Result<(), Unwritten> {
         self.codes.write(&value.to_code(), bytes)
+    }
+}
+
+impl<F: Exact, T: ExactCoded<F::Value>> Exact for ByCode<T, F>
+where
+    F::Value: Drop + Copy,
+{
+    ghost exact = { IsExact-Parts T.code F.same T.tells F.exact };
+
+    fn equal(left: &T, right: &T) -> bool {
+        F::equal(&left.to_code(), &right.to_code())
     }
 }

@@ -1,6 +1,7 @@
 //! A format that the value before it chooses: `Choose`, `choose_next`.
 
 ghost use Rattle.std.specs.Prelude.{◌≡◌};
+ghost use Rattle.winnow_codec.specs.Exactness.{IsExact-Both};
 ghost use Rattle.winnow_codec.specs.FormatRows.{SpellsBoth, AreBothSame, IsFormat-Then};
 
 use crate::{Exact, Format, Unwritten};
@@ -83,5 +84,20 @@ where
                 Err(unwritten)
             }
         }
+    }
+}
+
+impl<A: Exact, C: Choose<A::Value>> Exact for Then<A, C>
+where
+    A::Value: Drop,
+    C::Format: Drop + Exact,
+{
+    ghost exact = { IsExact-Both A.same C.Format.same A.exact C.Format.exact };
+
+    fn equal(
+        left: &(A::Value, <C::Format as Format>::Value),
+        right: &(A::Value, <C::Format as Format>::Value),
+    ) -> bool {
+        A::equal(&left.0, &right.0) && <C::Format as Exact>::equal(&left.1, &right.1)
     }
 }

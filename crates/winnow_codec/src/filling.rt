@@ -25,8 +25,14 @@ pub fn filled_by<F>(inner: F) -> Filled<F>
     Filled { inner }
 }
 
-// Reads a value from the front of the bytes, and moves past it.
-fn read_first<F: Format>(format: &F, alloc: Global, input: &mut &[u8]) -> Result<F::Value, Unread>
+/// Reads a value from the front of bytes that are all there, and moves past it, as a
+/// [`Whole`](crate::Whole) of your own reads its parts. If no value is spelled at their front, it
+/// is `Malformed`, and then, and if memory is refused, no contract says which bytes are left.
+pub fn read_first<F: Format>(
+    format: &F,
+    alloc: Global,
+    input: &mut &[u8],
+) -> Result<F::Value, Unread>
     ensures { ReadsFirst (F.spells format.now) input.old.now result input.new.now }
 {
     let read: ModalResult<F::Value, EmptyError> = format.read(alloc, input);

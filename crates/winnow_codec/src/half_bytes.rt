@@ -4,7 +4,7 @@ ghost use Rattle.winnow_codec.specs.Formats.{IsEqual};
 ghost use Rattle.winnow_codec.specs.Nibbles.{SpellsNibbles, IsFormat-Nibbles};
 
 use crate::one_byte::OneByte;
-use crate::{Format, Unwritten};
+use crate::{Exact, Format, Unwritten};
 use std::alloc::Global;
 use winnow_error::ParserError;
 use winnow_parser::ModalResult;
@@ -52,5 +52,13 @@ impl Format for HalfBytes {
         } else {
             Err(Unwritten::Unspelled)
         }
+    }
+}
+
+impl Exact for HalfBytes {
+    ghost exact = { λ _ _ e. e };
+
+    fn equal(left: &(u8, u8), right: &(u8, u8)) -> bool {
+        left.0 == right.0 && left.1 == right.1
     }
 }

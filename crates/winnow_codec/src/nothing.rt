@@ -1,8 +1,9 @@
 //! No format, whose value no bytes spell: `()`.
 
+ghost use Rattle.winnow_codec.specs.Exactness.{IsExact-Nothing};
 ghost use Rattle.winnow_codec.specs.Known.{SpellsNothing, IsNothing, IsFormat-Nothing};
 
-use crate::{Format, Unwritten};
+use crate::{Exact, Format, Unwritten};
 use std::alloc::Global;
 use winnow_error::ParserError;
 use winnow_parser::ModalResult;
@@ -28,5 +29,13 @@ impl Format for () {
 
     fn write(&self, _value: &(), _bytes: &mut Vec<u8>) -> Result<(), Unwritten> {
         Ok(())
+    }
+}
+
+impl Exact for () {
+    ghost exact = { IsExact-Nothing };
+
+    fn equal(_left: &(), _right: &()) -> bool {
+        true
     }
 }

@@ -3,7 +3,7 @@
 ghost use Rattle.std.specs.Prelude.{◌≡◌};
 ghost use Rattle.winnow_codec.specs.Known.{SpellsAfter, IsFormat-After};
 
-use crate::{Format, Unwritten, write_two};
+use crate::{Exact, Format, Unwritten, write_two};
 use std::alloc::Global;
 use winnow_error::ParserError;
 use winnow_parser::ModalResult;
@@ -47,5 +47,13 @@ impl<S: Format<Value = ()>, F: Format> Format for After<S, F> {
 
     fn write(&self, value: &F::Value, bytes: &mut Vec<u8>) -> Result<(), Unwritten> {
         write_two(&self.formats, &(), value, bytes)
+    }
+}
+
+impl<S: Format<Value = ()>, F: Exact> Exact for After<S, F> {
+    ghost exact = { F.exact };
+
+    fn equal(left: &F::Value, right: &F::Value) -> bool {
+        F::equal(left, right)
     }
 }

@@ -1,10 +1,11 @@
 //! Tuples of two and three formats, whose values are spelled one after the other.
 
+ghost use Rattle.winnow_codec.specs.Exactness.{IsExact-Both, IsExact-Row3};
 ghost use Rattle.winnow_codec.specs.FormatRows.{SpellsPair, AreBothSame, IsFormat-Pair, SpellsRow3};
 ghost use Rattle.winnow_codec.specs.FormatRows.{AreSame3, IsFormat-Row3};
 ghost use Rattle.winnow_codec.specs.Writing.{Writes};
 
-use crate::{Format, Unwritten};
+use crate::{Exact, Format, Unwritten};
 use std::alloc::Global;
 use winnow_error::ParserError;
 use winnow_parser::ModalResult;
@@ -64,6 +65,17 @@ where
     #[inline(always)]
     fn write(&self, value: &(A::Value, B::Value), bytes: &mut Vec<u8>) -> Result<(), Unwritten> {
         write_two(self, &value.0, &value.1, bytes)
+    }
+}
+
+impl<A: Exact, B: Exact> Exact for (A, B)
+where
+    A::Value: Drop,
+{
+    ghost exact = { IsExact-Both A.same B.same A.exact B.exact };
+
+    fn equal(left: &(A::Value, B::Value), right: &(A::Value, B::Value)) -> bool {
+        A::equal(&left.0, &right.0) && B::equal(&left.1, &right.1)
     }
 }
 
@@ -128,5 +140,20 @@ where
         bytes: &mut Vec<u8>,
     ) -> Result<(), Unwritten> {
         write_three(self, &value.0, &value.1, &value.2, bytes)
+    }
+}
+
+impl<A: Exact, B: Exact, C: Exact> Exact for (A, B, C)
+where
+    A::Value: Drop,
+    B::Value: Drop,
+{
+    ghost exact = { IsExact-Row3 A.same B.same C.same A.exact B.exact C.exact };
+
+    fn equal(
+        left: &(A::Value, B::Value, C::Value),
+        right: &(A::Value, B::Value, C::Value),
+    ) -> bool {
+        A::equal(&left.0, &right.0) && B::equal(&left.1, &right.1) && C::equal(&left.2, &right.2)
     }
 }

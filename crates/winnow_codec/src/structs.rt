@@ -1,10 +1,11 @@
 //! A struct by its fields: `Fields`, `struct_of`.
 
-ghost use Rattle.std.specs.Prelude.{◌≡◌};
+ghost use Rattle.std.specs.Prelude.{◌≡◌, ◌↔◌, IsTrue};
+ghost use Rattle.winnow_codec.specs.Exactness.{TellsByParts, IsExact-Parts};
 ghost use Rattle.winnow_codec.specs.FormatParts.{SpellsParts, HaveSameParts, IsFormat-Parts};
 ghost use Rattle.winnow_codec.specs.Writing.{Writes};
 
-use crate::{Format, Unwritten};
+use crate::{Exact, Format, Unwritten};
 use std::alloc::Global;
 use winnow_error::ParserError;
 use winnow_parser::ModalResult;
@@ -26,6 +27,17 @@ pub trait Fields: Sized {
     fn write_fields(&self, format: &Self::Format, bytes: &mut Vec<u8>) -> Result<(), Unwritten>
         ensures { Writes (Self.Format.spells format.now) (fields self.now) bytes.old.items result
             bytes.new.items };
+}
+
+/// A struct that is equal to another one if its fields are. Then the values of its format are
+/// compared ([`Exact`]).
+pub trait ExactFields: Fields {
+    /// Returns whether the structs are equal.
+    fn equal(left: &Self, right: &Self) -> bool
+        ensures { IsTrue result ↔ left.now ≡ right.now };
+
+    // Structs of equal fields are equal.
+    ghost tells: { TellsByParts Self.fields };
 }
 
 /// The format of a struct that is spelled as its fields are; [`struct_of`] makes it.
@@ -64,5 +76,16 @@ impl<S: Fields> Format for Struct<S> {
 
     fn write(&self, value: &S, bytes: &mut Vec<u8>) -> Result<(), Unwritten> {
         value.write_fields(&self.fields, bytes)
+    }
+}
+
+impl<S: ExactFields> Exact for Struct<S>
+where
+    S::Format: Exact,
+{
+    ghost exact = { IsExact-Parts S.fields S.Format.same S.tells S.Format.exact };
+
+    fn equal(left: &S, right: &S) -> bool {
+        S::equal(left, right)
     }
 }

@@ -12,7 +12,7 @@ use crate::one_byte::OneByte;
 use crate::{At, Cases, Format, LastAt, Tagged, Unwritten};
 
 // Appends a tag and the bytes that spell a value.
-fn write_case<A: Format>(
+pub(crate) fn write_case<A: Format>(
     label: u8,
     format: &A,
     value: &A::Value,

@@ -71,7 +71,7 @@ pub head-other : (first n : ℕ) → ((h : Head) → IsHeadOf first n h → ⊥)
     → (partial : Bool) (a b : Ahead ℕ) → Reads SpellsInitial partial a (Gives (first, n) b)
     → Reads SpellsHead partial a (Fails (Backtracks b))
 head-other first n other partial a b reads =
-    none-other (AreBothSame IsEqual IsEqual) SpellsInitial IsFormat-Initial SpellsHead (λ h. (initial_of h.kind h.argument, h.argument))
+    none-other (AreBothSame IsEqual IsEqual) SpellsInitial IsFormat-Initial.prefix_free SpellsHead (λ h. (initial_of h.kind h.argument, h.argument))
     (λ h bytes s. s.1) partial a b (first, n) reads
     (λ h bytes s same. other h (s.0, sym same.0, sym same.1))
 

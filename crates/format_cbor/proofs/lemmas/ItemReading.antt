@@ -9,6 +9,7 @@ use Rattle.winnow_codec.specs.Lists.{SpellsItems}
 use Rattle.winnow_codec.specs.Writing.{Writes}
 use Rattle.winnow_codec.specs.declared.unwritten.Unwritten.{Unwritten}
 use Rattle.winnow_codec.specs.declared.unwritten.Unwritten.TheVariants.{Unspelled, Refused}
+use Rattle.winnow_codec.proofs.lemmas.Reading.{none-has}
 use Rattle.format_cbor.specs.Heads.{rank}
 use Rattle.format_cbor.specs.Scalars.{SpellsBody}
 use Rattle.format_cbor.specs.Items.{item_head, SpellsInner, SpellsContents}
@@ -21,7 +22,6 @@ use Rattle.format_cbor.specs.declared.item.Item.TheOpen as open_item
 use Rattle.format_cbor.specs.declared.item.Item.TheOpen.{Item-F}
 use Rattle.format_cbor.specs.declared.item.Item.TheVariants as item
 use Rattle.format_cbor.specs.declared.item.Item.TheViews.{out-Item, the_lemmas}
-use Rattle.format_cbor.proofs.lemmas.ScalarReading.{none-has}
 
 -- ---- The layer of an item
 

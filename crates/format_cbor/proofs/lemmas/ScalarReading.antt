@@ -8,24 +8,13 @@ use Rattle.winnow_codec.specs.Formats.{Spelling, Reads}
 use Rattle.winnow_codec.specs.FormatTexts.{SpellsText}
 use Rattle.winnow_codec.specs.WholeFormats.{SpellsRest}
 use Rattle.winnow_codec.proofs.lemmas.Lists.{takes-none}
+use Rattle.winnow_codec.proofs.lemmas.Reading.{none-has}
 use Rattle.format_cbor.specs.Heads.{rank}
 use Rattle.format_cbor.specs.Scalars.{head_of, body_of, IsSpelled, IsString, SpellsBody, SpellsPart}
 use Rattle.format_cbor.specs.declared.head.Head.{Head}
 use Rattle.format_cbor.specs.declared.head.Kind.TheVariants as kind
 use Rattle.format_cbor.specs.declared.scalar.Scalar.{Scalar}
 use Rattle.format_cbor.specs.declared.scalar.Scalar.TheVariants as scalar
-
--- where no value is read, none is that has such a value
-pub none-has : {V W : Type 0} (spells : Spelling V) (fewer : Spelling W)
-    → ((w : W) (bytes : List ℕ) → fewer w bytes → (v : V) × spells v bytes)
-    → (partial : Bool) (a : Ahead ℕ) (f : Failed ℕ)
-    → Reads spells partial a (Fails f) → Reads fewer partial a (Fails f)
-none-has spells fewer has partial a (Backtracks b) h =
-    (h.0, λ w bytes more rest follows s. let v = has w bytes s in h.1 v.0 bytes more rest follows v.1)
-none-has spells fewer has partial a (Cuts b) h = h
-none-has spells fewer has partial a (Needs n) h =
-    (h.0, λ w bytes more rest follows s. let v = has w bytes s in h.1 v.0 bytes more rest follows v.1)
-none-has spells fewer has partial a Refuses h = h
 
 -- a scalar whose head is that of no string is none
 no-string : (s : Scalar) → ((head_of s).kind ≡ kind.Bytes → ⊥) → ((head_of s).kind ≡ kind.Text → ⊥)

@@ -1,10 +1,14 @@
 -- Values that are read with what is computed of their bytes.
-use Rattle.std.proofs.Common.{◌≡◌, ℕ, Bool, false, List, ◌++◌, ap, sym, ◌∙◌, subst, refl, append_assoc}
+use Rattle.std.proofs.Common.{◌≡◌, ℕ, Bool, false, List, ◌++◌, length, take, Ok, Err, ap, sym, ◌∙◌, subst, refl, append_assoc}
+use Rattle.std.proofs.Math.Seq.{take-append_seam}
 use Rattle.std.proofs.lemmas.List.{append_cancel_left}
 use Rattle.winnow_parser.specs.Outcome.{Ahead, Failed, Backtracks, Cuts, Needs, Refuses, Gives, Fails}
 use Rattle.winnow_codec.specs.Checks.{SpellsChecked}
 use Rattle.winnow_codec.specs.Formats.{bytes_of, Spelling, Takes, SpellsNone, Reads, IsFormat}
 use Rattle.winnow_codec.specs.Known.{SpellsExactly}
+use Rattle.winnow_codec.specs.Writing.{Writes}
+use Rattle.winnow_codec.specs.declared.unwritten.Unwritten.{Unwritten}
+use Rattle.winnow_codec.specs.declared.unwritten.Unwritten.TheVariants.{Unspelled, Refused}
 use Rattle.winnow_codec.proofs.lemmas.Reading.{takes-both, takes-front, moves-both}
 
 module _ {V C : Type 0} (inner : Spelling V) (codes : Spelling C) (code_of : List ℕ → C) (partial : Bool) (a : Ahead ℕ) where
@@ -52,3 +56,18 @@ module _ {V C : Type 0} (inner : Spelling V) (codes : Spelling C) (code_of : Lis
     checked-unfinished (Cuts c) h k = absurd k
     checked-unfinished (Needs n) h k = (k.0, none-after false (again h) k.1)
     checked-unfinished Refuses h k = tt
+
+-- a value is written, and the code of its bytes is not
+pub checked-unwritten : {V C : Type 0} (same : V → V → Type 0) (inner : Spelling V)
+    → IsFormat same inner → (codes : Spelling C) (code_of : List ℕ → C)
+    → (v : V) (old mid new : List ℕ) (code : C) (unwritten : Unwritten)
+    → (w : Writes inner v old (Ok tt) mid) → code ≡ code_of w.0
+    → Writes codes code mid (Err unwritten) new
+    → Writes (SpellsChecked inner codes code_of) v old (Err unwritten) (take (length old) new)
+checked-unwritten same inner laws codes code_of v old mid new code Unspelled w is k = (
+  λ bytes (x, y, (i, j, e)).
+      k.0 y (subst (λ n. codes n y) (ap code_of (laws.canonical v x w.0 i w.1.0) ∙ sym is) j),
+  ap (take (length old)) (k.1 ∙ w.1.1) ∙ take-append_seam old w.0,
+)
+checked-unwritten same inner laws codes code_of v old mid new code (Refused r) w is k =
+    ap (take (length old)) (k ∙ w.1.1) ∙ take-append_seam old w.0

@@ -3,7 +3,7 @@ use Rattle.std.proofs.Common.{ℕ, Bool, List, ◌++◌, ap, sym, ◌∙◌, sub
 use Rattle.std.specs.Prelude.{Vec}
 use Rattle.std.specs.declared.alloc.Global.{Global}
 use Rattle.winnow_parser.specs.Outcome.{Ahead, Failed, Backtracks, Cuts, Needs, Refuses, Gives, Fails}
-use Rattle.winnow_codec.specs.Formats.{bytes_of, Spelling, Reads, IsFormat, IsEqual}
+use Rattle.winnow_codec.specs.Formats.{bytes_of, Spelling, Reads, IsPrefixFree, IsEqual}
 use Rattle.winnow_codec.specs.Frames.{ReadsPart, SpellsInside}
 use Rattle.winnow_codec.proofs.lemmas.Reading.{takes-front}
 
@@ -14,13 +14,13 @@ module _ {V : Type 0} (frames : Spelling (List ℕ)) (inner : Spelling V) (parti
   inside-given part v (bytes, (h, t)) s = (bytes, ((part.items, (s, h)), t))
 
   -- a part is read, and its bytes spell no value
-  pub inside-malformed : IsFormat IsEqual frames → (part : Vec ℕ Global)
+  pub inside-malformed : IsPrefixFree IsEqual frames → (part : Vec ℕ Global)
       → ReadsPart frames partial a (Gives part b) → ((v : V) → inner v part.items → ⊥)
       → Reads (SpellsInside frames inner) partial a (Fails (Backtracks b))
   inside-malformed laws part (bytes, (h, t)) none = (
     t.moves,
     λ v others more rest follows (other, (s, k)) whole.
-        let free = laws.prefix_free part.items other bytes others (bytes_of b.tokens ++ more) rest h k
+        let free = laws part.items other bytes others (bytes_of b.tokens ++ more) rest h k
         (sym (append_assoc bytes (bytes_of b.tokens) more) ∙ ap (λ l. l ++ more) (sym (takes-front t)) ∙ whole) in
         none v (subst (inner v) (sym free.0) s),
   )

@@ -6,7 +6,7 @@ use Rattle.std.proofs.Math.Seq.{take-append_seam}
 use Rattle.std.proofs.lemmas.List.{append-nil, append_cancel_left}
 use Rattle.winnow_stream.specs.Location.{location_behind}
 use Rattle.winnow_parser.specs.Outcome.{Ahead, Failed, Backtracks, Cuts, Needs, Refuses, Gives, Fails}
-use Rattle.winnow_codec.specs.Formats.{bytes_of, Spelling, Takes, SpellsNone, Reads, IsFormat}
+use Rattle.winnow_codec.specs.Formats.{bytes_of, Spelling, Takes, SpellsNone, Reads, IsPrefixFree}
 use Rattle.winnow_codec.specs.Lists.{SpellsEach, SpellsItems, SpellsItemsAfter}
 use Rattle.winnow_codec.specs.FormatRows.{SpellsBoth}
 use Rattle.winnow_codec.specs.Writing.{Writes}
@@ -40,7 +40,7 @@ module _ {V : Type 0} (inner : Spelling V) where
 
   -- the bytes of the first values are the front of those of more values, and those of the next
   -- value follow
-  each-left : (same : V → V → Type 0) → IsFormat same inner → (vs ws : List V)
+  each-left : (same : V → V → Type 0) → IsPrefixFree same inner → (vs ws : List V)
       (x y ahead rest : List ℕ)
       → length vs < length ws → SpellsEach inner vs x → SpellsEach inner ws y → x ++ ahead ≡ y ++ rest
       → (w : V) × ((front : List ℕ) × ((left : List ℕ) × (inner w front × (ahead ≡ front ++ left))))
@@ -50,11 +50,11 @@ module _ {V : Type 0} (inner : Spelling V) where
   each-left same laws (v ∷ vs) (w ∷ ws) x y ahead rest l (p, q, (h, k, e)) (front, back, (i, j, d)) t =
       let whole : p ++ (q ++ ahead) ≡ front ++ (back ++ rest) =
       sym (append_assoc p q ahead) ∙ ap (λ m. m ++ ahead) (sym e) ∙ t ∙ ap (λ m. m ++ rest) d ∙ append_assoc front back rest in
-      let one = laws.prefix_free v w p front (q ++ ahead) (back ++ rest) h i whole in
+      let one = laws v w p front (q ++ ahead) (back ++ rest) h i whole in
       let left = append_cancel_left p (q ++ ahead) (back ++ rest) (whole ∙ ap (λ m. m ++ (back ++ rest)) (sym one.1)) in
       each-left same laws vs ws q back ahead rest (omega (arith, l)) k j left
 
-  module _ (same : V → V → Type 0) (laws : IsFormat same inner) (a b : Ahead ℕ) (n : ℕ) (vs : List V) (x : List ℕ) (fewer : length vs < n) (spelled : SpellsEach inner vs x) (taken : Takes x a b) where
+  module _ (same : V → V → Type 0) (laws : IsPrefixFree same inner) (a b : Ahead ℕ) (n : ℕ) (vs : List V) (x : List ℕ) (fewer : length vs < n) (spelled : SpellsEach inner vs x) (taken : Takes x a b) where
     -- where no value follows fewer values, none are spelled
     none-follows : (partial : Bool) → SpellsNone inner partial (bytes_of b.tokens)
         → SpellsNone (SpellsItems inner n) partial (bytes_of a.tokens)
@@ -90,7 +90,7 @@ module _ {V : Type 0} (count : Spelling ℕ) (inner : Spelling V) (partial : Boo
 
   -- a count is read, and not the values
   pub list-unfinished : (same : ℕ → ℕ → Type 0) → ((k m : ℕ) → same k m → k ≡ m)
-      → IsFormat same count → (f : Failed ℕ)
+      → IsPrefixFree same count → (f : Failed ℕ)
       → Reads count partial a (Gives n b) → Reads (SpellsItems inner n) partial b (Fails f)
       → Reads (SpellsItemsAfter count inner) partial a (Fails f)
   list-unfinished same exact laws f h k =

@@ -3,7 +3,7 @@ use Rattle.std.proofs.Common.{◌≡◌, ℕ, Bool, List, ◌++◌, length, ap, 
 use Rattle.std.specs.Prelude.{Vec}
 use Rattle.std.specs.declared.alloc.Global.{Global}
 use Rattle.winnow_parser.specs.Outcome.{Ahead, Failed, Backtracks, Cuts, Needs, Refuses, Gives, Fails}
-use Rattle.winnow_codec.specs.Formats.{bytes_of, Spelling, Reads, IsFormat}
+use Rattle.winnow_codec.specs.Formats.{bytes_of, Spelling, Reads, IsPrefixFree}
 use Rattle.winnow_codec.specs.FormatRows.{SpellsBoth}
 use Rattle.winnow_codec.specs.Bytes.{SpellsBytes, SpellsBytesAfter, TakesBytes, same-front}
 use Rattle.winnow_codec.specs.WholeFormats.{SpellsFilling, SpellsWithin}
@@ -30,7 +30,7 @@ module _ (count : Spelling ℕ) (partial : Bool) (a b : Ahead ℕ) (n : ℕ) whe
 
   -- a count is read, and not its bytes
   pub bytes-unfinished : (same : ℕ → ℕ → Type 0) → ((k m : ℕ) → same k m → k ≡ m)
-      → IsFormat same count → (f : Failed ℕ)
+      → IsPrefixFree same count → (f : Failed ℕ)
       → Reads count partial a (Gives n b) → TakesBytes n partial b (Fails f)
       → Reads (SpellsBytesAfter count) partial a (Fails f)
   bytes-unfinished same exact laws f h k =
@@ -54,7 +54,7 @@ module _ {V : Type 0} (count : Spelling ℕ) (inner : Spelling V) (partial : Boo
   within-given c part v (x, (h, s)) (l, t) i =
       (x ++ part.items, ((n, (x, part.items, (h, (l, i), refl))), takes-both s t))
 
-  module _ (same : ℕ → ℕ → Type 0) (exact : (k m : ℕ) → same k m → k ≡ m) (laws : IsFormat same count) where
+  module _ (same : ℕ → ℕ → Type 0) (exact : (k m : ℕ) → same k m → k ≡ m) (laws : IsPrefixFree same count) where
     -- a count is read, and not that number of bytes
     pub within-unfinished : (f : Failed ℕ) → Reads count partial a (Gives n b)
         → TakesBytes n partial b (Fails f)
@@ -73,7 +73,7 @@ module _ {V : Type 0} (count : Spelling ℕ) (inner : Spelling V) (partial : Boo
       λ v bytes more rest follows (m, (y, z, (i, (k, j), e))) whole.
           let one : x ++ (bytes_of b.tokens ++ more) ≡ y ++ (z ++ rest) =
           sym (append_assoc x (bytes_of b.tokens) more) ∙ ap (λ u. u ++ more) (sym (takes-front s)) ∙ whole ∙ ap (λ u. u ++ rest) e ∙ append_assoc y z rest in
-          let free = laws.prefix_free n m x y (bytes_of b.tokens ++ more) (z ++ rest) h i one in
+          let free = laws n m x y (bytes_of b.tokens ++ more) (z ++ rest) h i one in
           let left : bytes_of b.tokens ++ more ≡ z ++ rest = append_cancel_left x (bytes_of b.tokens ++ more) (z ++ rest) (one ∙ ap (λ u. u ++ (z ++ rest)) (sym free.1)) in
           let two : part.items ++ (bytes_of c.tokens ++ more) ≡ z ++ rest =
           sym (append_assoc part.items (bytes_of c.tokens) more) ∙ ap (λ u. u ++ more) (sym (takes-front t)) ∙ left in

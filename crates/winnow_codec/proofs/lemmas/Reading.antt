@@ -5,7 +5,7 @@ use Rattle.winnow_stream.specs.Source.{Source, width, first_token}
 use Rattle.winnow_stream.specs.Location.{location_behind}
 use Rattle.winnow_stream.proofs.lemmas.FrontLemmas.{width-append}
 use Rattle.winnow_parser.specs.Outcome.{Ahead, Failed, Backtracks, Cuts, Needs, Refuses, Gives, Fails, Moves}
-use Rattle.winnow_codec.specs.Formats.{bytes_of, Spelling, Takes, SpellsNone, Reads, IsFormat}
+use Rattle.winnow_codec.specs.Formats.{bytes_of, Spelling, Takes, SpellsNone, Reads, IsPrefixFree}
 use Rattle.winnow_codec.specs.FormatRows.{SpellsBoth, ChoosesBySame}
 use Rattle.winnow_codec.specs.FormatParts.{SpellsParts}
 
@@ -60,7 +60,7 @@ module _ {V W : Type 0} (first : Spelling V) (second : V → Spelling W) (partia
   both-unbegun (Needs n) h = (h.0, none-first false _ h.1)
   both-unbegun Refuses h = tt
 
-  module _ (same : V → V → Type 0) (laws : IsFormat same first) (chooses : ChoosesBySame same second) where
+  module _ (same : V → V → Type 0) (laws : IsPrefixFree same first) (chooses : ChoosesBySame same second) where
     -- where no second value is spelled after a first, no two are
     none-second : (partial : Bool) (b : Ahead ℕ) (v : V) (x : List ℕ) → first v x → Takes x a b
         → SpellsNone (second v) partial (bytes_of b.tokens)
@@ -68,7 +68,7 @@ module _ {V W : Type 0} (first : Spelling V) (second : V → Spelling W) (partia
     none-second partial b v x s t h p bytes more rest follows (y, z, (i, j, e)) whole =
         let one : x ++ (bytes_of b.tokens ++ more) ≡ y ++ (z ++ rest) =
         sym (append_assoc x (bytes_of b.tokens) more) ∙ ap (λ l. l ++ more) (sym (takes-front t)) ∙ whole ∙ ap (λ l. l ++ rest) e ∙ append_assoc y z rest in
-        let free = laws.prefix_free v p.0 x y (bytes_of b.tokens ++ more) (z ++ rest) s i one in
+        let free = laws v p.0 x y (bytes_of b.tokens ++ more) (z ++ rest) s i one in
         let left = append_cancel_left x (bytes_of b.tokens ++ more) (z ++ rest) (one ∙ ap (λ l. l ++ (z ++ rest)) (sym free.1)) in
         h p.1 z more rest follows (chooses v p.0 p.1 z free.0 j) left
 
@@ -116,15 +116,27 @@ fewer-unread spells fewer part is partial a (Needs n) h =
     (h.0, λ w bytes more rest follows s. h.1 (part w) bytes more rest follows (is w bytes s))
 fewer-unread spells fewer part is partial a Refuses h = h
 
+-- where no value is read, none is that has such a value
+pub none-has : {V W : Type 0} (spells : Spelling V) (fewer : Spelling W)
+    → ((w : W) (bytes : List ℕ) → fewer w bytes → (v : V) × spells v bytes)
+    → (partial : Bool) (a : Ahead ℕ) (f : Failed ℕ)
+    → Reads spells partial a (Fails f) → Reads fewer partial a (Fails f)
+none-has spells fewer has partial a (Backtracks b) h =
+    (h.0, λ w bytes more rest follows s. let v = has w bytes s in h.1 v.0 bytes more rest follows v.1)
+none-has spells fewer has partial a (Cuts b) h = h
+none-has spells fewer has partial a (Needs n) h =
+    (h.0, λ w bytes more rest follows s. let v = has w bytes s in h.1 v.0 bytes more rest follows v.1)
+none-has spells fewer has partial a Refuses h = h
+
 -- ---- Tests
 
-module _ {V W : Type 0} (same : V → V → Type 0) (inner : Spelling V) (laws : IsFormat same inner) (spells : Spelling W) (part : W → V) (spelled : (w : W) (bytes : List ℕ) → spells w bytes → inner (part w) bytes) where
+module _ {V W : Type 0} (same : V → V → Type 0) (inner : Spelling V) (laws : IsPrefixFree same inner) (spells : Spelling W) (part : W → V) (spelled : (w : W) (bytes : List ℕ) → spells w bytes → inner (part w) bytes) where
   -- a value is read that is no part of any
   pub none-other : (partial : Bool) (a b : Ahead ℕ) (v : V) → Reads inner partial a (Gives v b)
       → ((w : W) (bytes : List ℕ) → spells w bytes → same v (part w) → ⊥) → Reads spells partial a (Fails (Backtracks b))
   none-other partial a b v (x, (s, t)) other = (
     t.moves,
     λ w bytes more rest follows k whole.
-        other w bytes k (laws.prefix_free v (part w) x bytes (bytes_of b.tokens ++ more) rest s (spelled w bytes k)
+        other w bytes k (laws v (part w) x bytes (bytes_of b.tokens ++ more) rest s (spelled w bytes k)
         (sym (append_assoc x (bytes_of b.tokens) more) ∙ ap (λ l. l ++ more) (sym (takes-front t)) ∙ whole)).0,
   )

@@ -1,7 +1,7 @@
 -- What readers of cases answer.
 use Rattle.std.proofs.Common.{◌≡◌, ℕ, Bool, List, ◌++◌, Result, Ok, Err, sym, subst, refl}
 use Rattle.winnow_parser.specs.Outcome.{Ahead, Failed, Gives, Fails}
-use Rattle.winnow_codec.specs.Formats.{Spelling, Reads, IsFormat}
+use Rattle.winnow_codec.specs.Formats.{Spelling, Reads, IsPrefixFree}
 use Rattle.winnow_codec.specs.FormatRows.{SpellsBoth}
 use Rattle.winnow_codec.specs.Byte.{SpellsByte}
 use Rattle.winnow_codec.specs.Cases.{AreCases, SpellsTagged, SpellsLast, only_tag, with_tag}
@@ -21,7 +21,7 @@ module _ {T V : Type 0} (tags : Spelling T) (tag_of : V → T) (cases : T → Sp
 
   -- a tag is read, and not what follows it
   pub tagged-unfinished : (alike : T → T → Type 0) → ((t u : T) → alike t u → t ≡ u)
-      → IsFormat alike tags → (f : Failed ℕ)
+      → IsPrefixFree alike tags → (f : Failed ℕ)
       → Reads tags partial a (Gives tag b) → Reads (cases tag) partial b (Fails f) → Reads (SpellsTagged tags tag_of cases) partial a (Fails f)
   tagged-unfinished alike exact laws f h k =
       parts-unread (with_tag tag_of) (SpellsBoth tags cases) partial a f

@@ -4,7 +4,7 @@ use Rattle.std.proofs.lemmas.List.{append-nil}
 use Rattle.winnow_stream.specs.Source.{Source, width, units, HasPositiveWidths}
 use Rattle.winnow_stream.proofs.lemmas.FrontLemmas.{width-append}
 use Rattle.winnow_parser.specs.Outcome.{Ahead, Backtracks, Gives, Fails}
-use Rattle.winnow_codec.specs.Formats.{bytes_of, Spelling, Takes, IsFormat, Reads}
+use Rattle.winnow_codec.specs.Formats.{bytes_of, Spelling, Takes, IsFormat, IsPrefixFree, Reads}
 use Rattle.std.specs.Prelude.{Vec, Err}
 use Rattle.std.specs.declared.alloc.Global.{Global}
 use Rattle.std.proofs.lemmas.List.{append_cancel_left}
@@ -41,7 +41,7 @@ none-taken x a b positive t more =
     let zero : width t.moves.taken ≡ 0 = omega (arith, more, sum) in
     sym t.taken ∙ ap bytes_of (width-none t.moves.taken b.tokens (subst HasPositiveWidths t.moves.whole positive) zero)
 
-module _ {V : Type 0} (same : V → V → Type 0) (inner : Spelling V) (laws : IsFormat same inner) (partial : Bool) (a b : Ahead ℕ) (v : V) where
+module _ {V : Type 0} (same : V → V → Type 0) (inner : Spelling V) (laws : IsPrefixFree same inner) (partial : Bool) (a b : Ahead ℕ) (v : V) where
   -- a value of some bytes is read
   pub some-given : Reads inner partial a (Gives v b) → width b.tokens < width a.tokens
       → Reads (SpellsSome inner) partial a (Gives v b)
@@ -54,7 +54,7 @@ module _ {V : Type 0} (same : V → V → Type 0) (inner : Spelling V) (laws : I
   none-given positive (x, (s, t)) more = (
     t.moves,
     λ w bytes after rest follows k whole.
-        k.1 (sym (laws.prefix_free v w x bytes (bytes_of b.tokens ++ after) rest s k.0
+        k.1 (sym (laws v w x bytes (bytes_of b.tokens ++ after) rest s k.0
         (sym (append_assoc x (bytes_of b.tokens) after) ∙ ap (λ l. l ++ after) (sym (takes-front t)) ∙ whole)).1
         ∙ none-taken x a b positive t more),
   )

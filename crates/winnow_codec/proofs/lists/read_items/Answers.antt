@@ -38,7 +38,7 @@ returns-in-Err-clause-means g c =
     let so_far = c.loop-k.invariant in
     let flag = g.met.I.StreamIsPartial.keeps_flag c.args.input.now c.loop-k.input so_far.kept in
     let fewer : length c.loop-k.items.items < c.args.count = omega (arith, so_far.number, c.loop-k-test.true) in
-    items-unread inner g.F.Format.same (g.met.F.Format.lawful c.args.item.now)
+    items-unread inner g.F.Format.same (g.met.F.Format.lawful c.args.item.now).prefix_free
     (ahead g.I.Rest.location g.I.Stream.remaining c.args.input.now) (ahead g.I.Rest.location g.I.Stream.remaining c.loop-k.input)
     c.args.count c.loop-k.items.items so_far.read.0 fewer so_far.read.1.0 so_far.read.1.1 (g.I.StreamIsPartial.expects_more c.args.input.now)
     (failed c.in-Err.failure (ahead g.I.Rest.location g.I.Stream.remaining c.read.new.input)) (rw flag at c.in-Err.ensures.means)

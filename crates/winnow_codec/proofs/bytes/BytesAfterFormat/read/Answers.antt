@@ -11,5 +11,5 @@ pub returns-in-Err-read_bytes-clause-means : goal.returns-in-Err-read_bytes-clau
 returns-in-Err-read_bytes-clause-means g c =
     let flag = g.met.I.StreamIsPartial.keeps_flag c.args.input.now c.read.new.input c.in-Ok.ensures.kept in
     bytes-unfinished (g.C.Format.spells c.args.self.now.count) (g.I.StreamIsPartial.expects_more c.args.input.now) _
-    (ahead g.I.Rest.location g.I.Stream.remaining c.read.new.input) c.in-Ok.count g.C.Format.same g.met.C.Exact.exact (g.met.C.Format.lawful c.args.self.now.count)
+    (ahead g.I.Rest.location g.I.Stream.remaining c.read.new.input) c.in-Ok.count g.C.Format.same g.met.C.Exact.exact (g.met.C.Format.lawful c.args.self.now.count).prefix_free
     (failed c.in-Err-read_bytes.failure (ahead g.I.Rest.location g.I.Stream.remaining c.read_bytes.new.input)) c.in-Ok.ensures.means (rw flag at c.in-Err-read_bytes.ensures.means)

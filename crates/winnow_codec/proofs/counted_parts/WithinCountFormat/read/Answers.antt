@@ -15,12 +15,12 @@ returns-in-Err-Malformed-clause-means g c =
     let part = g.W.Whole.spells c.args.self.now.part in
     let none = subst (λ u. ReadsWhole part c.deref.result.now (Err u)) c.in-Err-Malformed.field-0-is c.in-Err-Malformed.ensures in
     within-malformed (g.C.Format.spells c.args.self.now.count) part (g.I.StreamIsPartial.expects_more c.args.input.now) _
-    (ahead g.I.Rest.location g.I.Stream.remaining c.read.new.input) c.in-Ok.count g.C.Format.same g.met.C.Exact.exact (g.met.C.Format.lawful c.args.self.now.count)
+    (ahead g.I.Rest.location g.I.Stream.remaining c.read.new.input) c.in-Ok.count g.C.Format.same g.met.C.Exact.exact (g.met.C.Format.lawful c.args.self.now.count).prefix_free
     _ c.in-Ok-read_bytes.bytes c.in-Ok.ensures.means c.in-Ok-read_bytes.ensures.means (λ v s. none v (subst (part v) (sym c.deref.ensures.value) s))
 
 pub returns-in-Ok-clause-means : goal.returns-in-Ok-clause-means
 returns-in-Ok-clause-means g c =
     let flag = g.met.I.StreamIsPartial.keeps_flag c.args.input.now c.read.new.input c.in-Ok.ensures.kept in
     within-unfinished (g.C.Format.spells c.args.self.now.count) (g.W.Whole.spells c.args.self.now.part) (g.I.StreamIsPartial.expects_more c.args.input.now) _
-    (ahead g.I.Rest.location g.I.Stream.remaining c.read.new.input) c.in-Ok.count g.C.Format.same g.met.C.Exact.exact (g.met.C.Format.lawful c.args.self.now.count)
+    (ahead g.I.Rest.location g.I.Stream.remaining c.read.new.input) c.in-Ok.count g.C.Format.same g.met.C.Exact.exact (g.met.C.Format.lawful c.args.self.now.count).prefix_free
     (failed c.in-Err-read_bytes.failure (ahead g.I.Rest.location g.I.Stream.remaining c.read_bytes.new.input)) c.in-Ok.ensures.means (rw flag at c.in-Err-read_bytes.ensures.means)

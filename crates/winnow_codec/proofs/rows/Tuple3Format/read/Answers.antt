@@ -17,7 +17,7 @@ returns-in-Err-read-clause-means g c =
     let flag = g.met.I.StreamIsPartial.keeps_flag c.args.input.now c.read.new.input c.in-Ok.ensures.kept in
     let f = failed c.in-Err-read.failure (ahead g.I.Rest.location g.I.Stream.remaining c.read-in-Ok.new.input) in
     parts-unread nested3 (SpellsPair first rest) partial _ f
-    (both-unfinished first (λ _. rest) partial _ g.A.Format.same (g.met.A.Format.lawful c.args.self.now.0) (λ _ _ _ _ _ h. h)
+    (both-unfinished first (λ _. rest) partial _ g.A.Format.same (g.met.A.Format.lawful c.args.self.now.0).prefix_free (λ _ _ _ _ _ h. h)
     _ _ f c.in-Ok.ensures.means (rw flag at c.in-Err-read.ensures.means))
 
 pub returns-in-Err-clause-means : goal.returns-in-Err-clause-means

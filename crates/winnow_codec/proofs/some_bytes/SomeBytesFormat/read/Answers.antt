@@ -8,14 +8,14 @@ use Rattle.winnow_codec.proofs.some_bytes.SomeBytesFormat.read.Goals as goal
 pub returns-then-eof_offset-before-clause-means : goal.returns-then-eof_offset-before-clause-means
 returns-then-eof_offset-before-clause-means g c =
     let stands = ahead g.I.Rest.location g.I.Stream.remaining in
-    some-given g.F.Format.same (g.F.Format.spells c.args.self.now.inner) (g.met.F.Format.lawful c.args.self.now.inner) (g.I.StreamIsPartial.expects_more c.args.input.now)
+    some-given g.F.Format.same (g.F.Format.spells c.args.self.now.inner) (g.met.F.Format.lawful c.args.self.now.inner).prefix_free (g.I.StreamIsPartial.expects_more c.args.input.now)
     (stands c.args.input.now) (stands c.read.new.input) c.in-Ok.value c.in-Ok.ensures.means
     (omega (arith, c.if-eof_offset-before.true, c.eof_offset.ensures, c.eof_offset-before.ensures))
 
 pub returns-else-eof_offset-before-clause-means : goal.returns-else-eof_offset-before-clause-means
 returns-else-eof_offset-before-clause-means g c =
     let stands = ahead g.I.Rest.location g.I.Stream.remaining in
-    none-given g.F.Format.same (g.F.Format.spells c.args.self.now.inner) (g.met.F.Format.lawful c.args.self.now.inner) (g.I.StreamIsPartial.expects_more c.args.input.now)
+    none-given g.F.Format.same (g.F.Format.spells c.args.self.now.inner) (g.met.F.Format.lawful c.args.self.now.inner).prefix_free (g.I.StreamIsPartial.expects_more c.args.input.now)
     (stands c.args.input.now) (stands c.read.new.input) c.in-Ok.value (g.met.I.Stream.positive_widths c.args.input.now c.requires) c.in-Ok.ensures.means
     (omega (arith, c.if-eof_offset-before.false, c.eof_offset.ensures, c.eof_offset-before.ensures))
 
