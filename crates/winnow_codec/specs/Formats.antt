@@ -45,7 +45,8 @@ IsPrefixFree {V} same spells = (v w : V) (bytes others rest left : List ℕ) →
 pub record IsFormat {V : Type 0} (same : V → V → Type 0) (spells : Spelling V) : Type 0 where
   pub canonical : (v : V) (bytes others : List ℕ) → spells v bytes → spells v others
       → bytes ≡ others
-  pub prefix_free : IsPrefixFree same spells
+  pub prefix_free : (v w : V) (bytes others rest left : List ℕ) → spells v bytes → spells w others
+      → bytes ++ rest ≡ others ++ left → same v w × (bytes ≡ others)
 
 -- both are one
 abbrev pub IsEqual : {V : Type 0} → V → V → Type 0

@@ -84,8 +84,7 @@ pub(crate) fn is_in_range(lowest: u8, highest: u8, label: u8) -> bool
 }
 
 impl<const LOWEST: u8, const HIGHEST: u8, A: Format, R: Cases<OneByte>> Cases<OneByte>
-    for InRange<LOWEST, HIGHEST, A, R>
-{
+    for InRange<LOWEST, HIGHEST, A, R> {
     type Value = Choice<(u8, A::Value), R::Value>;
 
     ghost spells = { λ c. SpellsRange LOWEST HIGHEST (A.spells c.0) (R.spells c.1) };

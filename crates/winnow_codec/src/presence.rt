@@ -6,7 +6,9 @@ ghost use Rattle.winnow_codec.specs.Presence.{SpellsPresent, AreSamePresent};
 ghost use Rattle.winnow_codec.specs.Presence.{IsFormat-Present, AreCases-Present};
 
 use crate::one_byte::OneByte;
-use crate::{ByCode, Cases, Coded, Exact, ExactCoded, Format, Tagged, Unwritten, by_code_of, by_tag};
+use crate::{
+    ByCode, Cases, Coded, Exact, ExactCoded, Format, Tagged, Unwritten, by_code_of, by_tag,
+};
 use std::alloc::Global;
 use winnow_error::ParserError;
 use winnow_parser::ModalResult;
