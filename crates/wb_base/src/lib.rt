@@ -13,7 +13,7 @@ mod terminal;
 mod watching;
 
 pub use excerpt::Excerpt;
-pub use exchanging::{Exchanged, exchange, exchange_law, exchanged_byte};
+pub use exchanging::{Exchanged, exchange, exchange_law, exchanged_byte, exchanged_excerpt};
 pub use message::Message;
 pub use position::{Position, line_feeds, position_after};
 pub use remembering::Recent;

@@ -3,7 +3,7 @@
 ghost use Rattle.std.specs.Prelude.{◌≡◌, ◌+◌, ◌<◌, ◌^◌, ◌≤◌, true, false, [], length};
 ghost use Rattle.std.specs.Prelude.{ℕ, List, Option, OnOk, IfErr};
 ghost use Rattle.std.specs.Io.KnownBytes.{Appends};
-ghost use Rattle.winnow.specs.State.{pushed, fed_of};
+ghost use Rattle.winnow_reader.specs.State.{pushed, fed_of};
 ghost use Rattle.format_csv.specs.RowReader.{ReadsAlso};
 ghost use Rattle.wb_csv.specs.Copying.{IsOfInput, IsBegun, WritesOn, StopsWith, Copies, TellsText};
 ghost use Rattle.example_base.specs.declared.trouble.Trouble.TheVariants.{TooLong};

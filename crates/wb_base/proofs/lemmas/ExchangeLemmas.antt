@@ -1,8 +1,12 @@
 -- Two exchanges, and an exchange of what is read.
-use Rattle.std.proofs.Common.{◌≡◌, ℕ, ◌<◌, List, [], ◌∷◌, ◌++◌, length, map, take, refl, ap, sym, ◌∙◌, arith}
+use Rattle.std.proofs.Common.{◌≡◌, ℕ, ◌<◌, List, [], ◌∷◌, ◌++◌, length, map, take, drop, refl, ap, sym, subst, ◌∙◌, arith, append_assoc, Result, Ok, Err, IfOk}
+use Rattle.std.specs.declared.alloc.AllocError.{AllocError}
+use Rattle.std.proofs.lemmas.List.{take-append-drop}
 use Rattle.std.specs.Prelude.{Option, None, Some}
 use Rattle.std.specs.Io.KnownBytes.{Consumes, Keeps, IsAtEnd}
 use Rattle.wb_base.specs.Exchanging.{exchanged_byte, exchanged, exchanged_known}
+use Rattle.wb_base.specs.Excerpts.{IsExcerpt}
+use Rattle.wb_base.specs.declared.excerpt.Excerpt.{Excerpt}
 
 -- a byte that is exchanged twice is what it was
 byte-twice : (one other byte : ℕ) → exchanged_byte one other (exchanged_byte one other byte) ≡ byte
@@ -44,3 +48,28 @@ pub exchanged-keeps : (one other : ℕ) (a b : Option (List ℕ)) → Keeps a b 
 exchanged-keeps one other None b h = tt
 exchanged-keeps one other (Some xs) None h = absurd h
 exchanged-keeps one other (Some xs) (Some ys) h = ap (exchanged one other) h
+
+-- the line of a place between some of the bytes on each side is that between all of them
+pub excerpt-parts : (one other n m : ℕ) (before rest : List ℕ) (e : Excerpt)
+    → IsExcerpt (exchanged one other (drop n before)) (exchanged one other (take m rest)) e
+    → IsExcerpt (exchanged one other before) (exchanged one other rest) e
+excerpt-parts one other n m before rest e is = record {
+  start = exchanged one other (take n before) ++ is.start;
+  more = is.more ++ exchanged one other (drop m rest);
+  ahead =
+      ap (exchanged one other) (sym (take-append-drop n before)) ∙ exchanged-append one other (take n before) (drop n before)
+      ∙ ap (λ b. exchanged one other (take n before) ++ b) is.ahead ∙ sym (append_assoc (exchanged one other (take n before)) is.start e.before.items);
+  after =
+      ap (exchanged one other) (sym (take-append-drop m rest)) ∙ exchanged-append one other (take m rest) (drop m rest)
+      ∙ ap (λ b. b ++ exchanged one other (drop m rest)) is.after ∙ append_assoc e.after.items is.more (exchanged one other (drop m rest));
+  line_ahead = is.line_ahead;
+  line_after = is.line_after;
+}
+
+-- and so is that between copies of them, if there is one
+pub excerpts-parts : (one other n m : ℕ) (before rest left right : List ℕ) (r : Result Excerpt AllocError)
+    → left ≡ exchanged one other (drop n before) → right ≡ exchanged one other (take m rest)
+    → IfOk r (IsExcerpt left right) → IfOk r (IsExcerpt (exchanged one other before) (exchanged one other rest))
+excerpts-parts one other n m before rest left right (Err e) a b h = tt
+excerpts-parts one other n m before rest left right (Ok e) a b h =
+    excerpt-parts one other n m before rest e (subst (λ l. IsExcerpt l (exchanged one other (take m rest)) e) a (subst (λ r. IsExcerpt left r e) b h))
