@@ -4,3 +4,4 @@ pub mod ReadLemmas
 pub mod DamageLemmas
 pub mod CopiedLemmas
 pub mod StartLemmas
+pub mod LimitLemmas

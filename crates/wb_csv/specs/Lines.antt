@@ -3,6 +3,7 @@
 use Rattle.std.specs.Prelude.{ℕ, ◌+◌, ◌-◌, ◌/◌, ◌%◌, ◌==◌, ◌||◌, nat_lt, if◌then◌else◌, List, [], ◌∷◌, ◌++◌, map, get_or}
 use Rattle.std.specs.List.{flat_map}
 use Rattle.format_csv.specs.Writing.{written_field}
+use Rattle.wb_base.specs.Exchanging.{exchanged}
 use Rattle.wb_csv.specs.declared.settings.Settings.{Settings}
 use Rattle.wb_csv.specs.declared.settings.Layout.{Layout}
 use Rattle.wb_csv.specs.declared.settings.Layout.TheVariants.{Csv, Json, Nothing}
@@ -27,6 +28,14 @@ abbrev pub field_by : Layout → List ℕ → List ℕ
 field_by Csv value = written_field value
 field_by Json value = string_of value
 field_by Nothing value = []
+
+-- the bytes in which the comma (44) and the delimiter took each other's place
+abbrev pub exchanged_by : Settings → List ℕ → List ℕ
+exchanged_by settings bytes = exchanged 44 settings.delimiter bytes
+
+-- a field that was read, as it is written
+abbrev pub field_of : Settings → List ℕ → List ℕ
+field_of settings value = field_by settings.layout (exchanged_by settings value)
 
 -- texts with commas between them
 abbrev pub joined : List (List ℕ) → List ℕ
@@ -54,12 +63,13 @@ closing Csv = 10 ∷ []
 closing Json = 93 ∷ 10 ∷ []
 closing Nothing = []
 
--- the fields as a line
+-- the texts of fields as a line
 abbrev pub line_by : Layout → List (List ℕ) → List ℕ
-line_by Nothing values = []
-line_by Csv values = joined (map (field_by Csv) values) ++ 10 ∷ []
-line_by Json values = 91 ∷ (joined (map (field_by Json) values) ++ 93 ∷ 10 ∷ [])
+line_by Nothing texts = []
+line_by Csv texts = joined texts ++ 10 ∷ []
+line_by Json texts = 91 ∷ (joined texts ++ 93 ∷ 10 ∷ [])
 
 -- a record as a line
 abbrev pub line_of : Settings → List (List ℕ) → List ℕ
-line_of settings values = line_by settings.layout (chosen settings.columns.items values)
+line_of settings values =
+    line_by settings.layout (map (field_of settings) (chosen settings.columns.items values))

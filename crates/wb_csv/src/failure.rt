@@ -3,7 +3,7 @@
 ghost use Rattle.std.specs.Prelude.{◌≡◌, Some};
 ghost use Rattle.example_base.specs.declared.trouble.Trouble.TheVariants.{OutOfMemory};
 ghost use Rattle.wb_csv.specs.Failures.{fault_at, fault_text, wanted_text, failure_text};
-ghost use Rattle.wb_csv.specs.Failures.{status_of};
+ghost use Rattle.wb_csv.specs.Failures.{status_of, delimiter_name};
 ghost use Rattle.wb_csv.specs.declared.failure.Failure.TheVariants.{Stopped};
 
 use crate::settings::Wanted;
@@ -22,20 +22,20 @@ pub enum Fault {
     QuoteInside,
     /// A carriage return with no line feed after it
     LoneReturn,
-    /// A byte after a closing quote that is neither a comma nor a line end
-    AfterQuote,
+    /// A byte after a closing quote that is neither this delimiter nor a line end
+    AfterQuote(u8),
 }
 
 impl Fault {
-    /// Returns what is wrong where these bytes follow a field.
-    pub fn of(rest: &[u8]) -> Fault
-        ensures { result ≡ fault_at rest.now }
+    /// Returns what is wrong where these bytes follow a field, and this delimiter might.
+    pub fn of(delimiter: u8, rest: &[u8]) -> Fault
+        ensures { result ≡ fault_at delimiter rest.now }
     {
         match rest {
             [] => Fault::Unclosed,
             [b'"', ..] => Fault::QuoteInside,
             [b'\r', ..] => Fault::LoneReturn,
-            _ => Fault::AfterQuote,
+            _ => Fault::AfterQuote(delimiter),
         }
     }
 }
@@ -62,6 +62,13 @@ pub enum Failure {
         /// What it lacks
         wanted: Wanted,
     },
+    /// The record that begins on this line has more bytes than it may have
+    Long {
+        /// The line, counted from 1
+        line: usize,
+        /// How many it may have
+        limit: usize,
+    },
     /// This byte order mark stands before the first record
     Marked(Mark),
     /// Memory was refused, or reading or writing failed
@@ -76,6 +83,7 @@ impl Failure {
         match self {
             Failure::Damaged { .. } => 2,
             Failure::Uneven { .. } => 2,
+            Failure::Long { .. } => 2,
             Failure::Marked(_) => 2,
             Failure::Stopped(trouble) => trouble.status(),
         }
@@ -86,6 +94,10 @@ impl Failure {
         match self {
             Failure::Damaged { position, .. } => Some(*position),
             Failure::Uneven { line, .. } => Some(Position {
+                line: *line,
+                column: 1,
+            }),
+            Failure::Long { line, .. } => Some(Position {
                 line: *line,
                 column: 1,
             }),
@@ -103,6 +115,16 @@ impl Failure {
     }
 }
 
+// Returns what a delimiter is called.
+fn delimiter_name(delimiter: u8) -> &'static str
+    ensures { result.now ≡ delimiter_name delimiter }
+{
+    if delimiter == b',' {
+        return "a comma";
+    }
+    "the delimiter"
+}
+
 impl fmt::Display for Fault {
     ghost output = { λ fault. Some (fault_text fault) };
 
@@ -111,11 +133,9 @@ impl fmt::Display for Fault {
             Fault::Unclosed => write!(f, "the input ends inside a quoted field"),
             Fault::QuoteInside => write!(f, "a quote inside a field that does not begin with one"),
             Fault::LoneReturn => write!(f, "a carriage return with no line feed after it"),
-            Fault::AfterQuote => {
-                write!(
-                    f,
-                    "neither a comma nor a line end follows the closing quote"
-                )
+            Fault::AfterQuote(delimiter) => {
+                let name = delimiter_name(*delimiter);
+                write!(f, "neither {name} nor a line end follows the closing quote")
             }
         }
     }
@@ -140,6 +160,7 @@ impl fmt::Display for Failure {
         match self {
             Failure::Damaged { fault, .. } => write!(f, "{fault}"),
             Failure::Uneven { fields, wanted, .. } => write!(f, "{fields} fields, {wanted}"),
+            Failure::Long { limit, .. } => write!(f, "the record has more than {limit} bytes"),
             Failure::Marked(mark) => write!(f, "{mark}"),
             Failure::Stopped(trouble) => write!(f, "{trouble}"),
         }

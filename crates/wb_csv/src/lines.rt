@@ -5,12 +5,13 @@ ghost use Rattle.std.specs.List.{list_any, flat_map};
 ghost use Rattle.csv.specs.Records.{fields_of};
 ghost use Rattle.format_csv.specs.Fields.{is_special, doubled};
 ghost use Rattle.format_csv.specs.Writing.{written_field};
-ghost use Rattle.wb_csv.specs.Lines.{hex_digit, escape, string_of, field_by, pick, joined};
-ghost use Rattle.wb_csv.specs.Lines.{opening, closing, chosen, line_of};
+ghost use Rattle.wb_csv.specs.Lines.{hex_digit, escape, string_of, field_by, field_of, pick};
+ghost use Rattle.wb_csv.specs.Lines.{joined, opening, closing, chosen, line_of};
 
 use crate::settings::{Layout, Settings};
 use format_csv::ByteRecord;
 use std::alloc::AllocError;
+use wb_base::exchange;
 
 /// Returns the field of a record with this index, or an empty one if it has none.
 pub fn field<'a>(row: &'a ByteRecord, place: usize) -> &'a [u8]
@@ -68,59 +69,74 @@ fn append_chosen(
     text: &mut Vec<u8>,
 ) -> Result<(), AllocError>
     ensures { OnOk result (text.new.items ≡ text.old.items
-        ++ joined (map (field_by settings.now.layout)
+        ++ joined (map (field_of settings.now)
         (chosen settings.now.columns.items (fields_of row.now)))) }
 {
     if settings.columns.is_empty() {
-        append_all(settings.layout, row, text)?;
+        append_all(settings, row, text)?;
     } else {
-        append_some(settings.layout, &settings.columns, row, text)?;
+        append_some(settings, &settings.columns, row, text)?;
     }
     Ok(())
 }
 
 // Appends all fields.
-fn append_all(layout: Layout, row: &ByteRecord, text: &mut Vec<u8>) -> Result<(), AllocError>
+fn append_all(settings: &Settings, row: &ByteRecord, text: &mut Vec<u8>) -> Result<(), AllocError>
     ensures { OnOk result (text.new.items
-        ≡ text.old.items ++ joined (map (field_by layout) (fields_of row.now))) }
+        ≡ text.old.items ++ joined (map (field_of settings.now) (fields_of row.now))) }
 {
     for place in 0..row.len() {
-        append_next(layout, place == 0, row, place, text)?;
+        append_next(settings, place == 0, row, place, text)?;
     }
     Ok(())
 }
 
 // Appends the fields with these indices.
 fn append_some(
-    layout: Layout,
+    settings: &Settings,
     columns: &[usize],
     row: &ByteRecord,
     text: &mut Vec<u8>,
 ) -> Result<(), AllocError>
     ensures { OnOk result (text.new.items ≡ text.old.items
-        ++ joined (map (field_by layout) (map (pick (fields_of row.now)) columns.now))) }
+        ++ joined (map (field_of settings.now) (map (pick (fields_of row.now)) columns.now))) }
 {
     for (index, place) in columns.iter().enumerate() {
-        append_next(layout, index == 0, row, *place, text)?;
+        append_next(settings, index == 0, row, *place, text)?;
     }
     Ok(())
 }
 
 // Appends the field with this index, after a comma unless it is the first of a line.
 fn append_next(
-    layout: Layout,
+    settings: &Settings,
     is_first: bool,
     row: &ByteRecord,
     place: usize,
     text: &mut Vec<u8>,
 ) -> Result<(), AllocError>
     ensures { OnOk result (text.new.items ≡ text.old.items ++ ((if is_first then [] else 44 ∷ [])
-        ++ field_by layout (pick (fields_of row.now) place))) }
+        ++ field_of settings.now (pick (fields_of row.now) place))) }
 {
     if !is_first {
         text.push(b',')?;
     }
-    append_field(layout, field(row, place), text)?;
+    append_read(settings, field(row, place), text)?;
+    Ok(())
+}
+
+// Appends a field that was read, with the delimiter and the comma back in their places.
+fn append_read(settings: &Settings, field: &[u8], text: &mut Vec<u8>) -> Result<(), AllocError>
+    ensures { OnOk result (text.new.items ≡ text.old.items ++ field_of settings.now field.now) }
+{
+    if settings.delimiter == b',' {
+        append_field(settings.layout, field, text)?;
+        return Ok(());
+    }
+    let mut value = Vec::new(*text.allocator());
+    value.extend_from_slice(field)?;
+    exchange(b',', settings.delimiter, &mut value);
+    append_field(settings.layout, &value, text)?;
     Ok(())
 }
 

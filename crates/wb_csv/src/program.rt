@@ -4,7 +4,7 @@ ghost use Rattle.std.specs.Prelude.{◌≡◌, ◌<◌, true, [], ℕ, List, Opt
 ghost use Rattle.std.specs.Prelude.{IfSome};
 ghost use Rattle.std.specs.Io.KnownBytes.{Consumes, IsAtEnd, prepend_known};
 ghost use Rattle.wb_csv.specs.Copying.{IsOfInput, Copies, CopiesAll, CopiesUntil};
-ghost use Rattle.wb_csv.specs.Copying.{CopiesInput, StopsInput};
+ghost use Rattle.wb_csv.specs.Copying.{CopiesBytes, StopsBytes, CopiesInput, StopsInput};
 
 use crate::copying::Copying;
 use crate::failure::Failure;
@@ -13,12 +13,17 @@ use example_base::{Driven, Trouble, drive, new_buffer, read_piece};
 use format_csv::skip_mark;
 use std::alloc::Global;
 use std::io::{Read, Write};
+use wb_base::Exchanged;
 
 /// Reads the records of an input to its end, and writes the line of each. A byte order mark of
 /// UTF-8 before the first record is skipped; any other mark is a failure.
 ///
+/// The delimiter of the settings takes the place of the comma as the input is read, and the comma
+/// its place; both are back in a field that is written.
+///
 /// If the bytes of the input are known, those of the output are known too: the lines of all its
-/// records, or of those before the failure.
+/// records, or of those before the failure. No record that is written has more bytes than the
+/// settings allow.
 pub fn copy_records<R: Read, W: Write>(
     alloc: Global,
     settings: Settings,
@@ -29,6 +34,26 @@ pub fn copy_records<R: Read, W: Write>(
         CopiesInput settings bytes (W.contents output.old) (W.contents output.new))) }
     ensures failed { IfErr result (λ failure. IfSome (R.remaining input.old) (λ bytes.
         StopsInput settings bytes failure (W.contents output.old) (W.contents output.new))) }
+{
+    let mut exchanged = Exchanged {
+        inner: input,
+        one: b',',
+        other: settings.delimiter,
+    };
+    copy_bytes(alloc, settings, &mut exchanged, output)
+}
+
+// Reads and writes the records of bytes in which the delimiter has the place of the comma.
+fn copy_bytes<R: Read, W: Write>(
+    alloc: Global,
+    settings: Settings,
+    input: &mut R,
+    output: &mut W,
+) -> Result<(), Failure>
+    ensures copied { OnOk result (IfSome (R.remaining input.old) (λ bytes.
+        CopiesBytes settings bytes (W.contents output.old) (W.contents output.new))) }
+    ensures failed { IfErr result (λ failure. IfSome (R.remaining input.old) (λ bytes.
+        StopsBytes settings bytes failure (W.contents output.old) (W.contents output.new))) }
 {
     let mut buffer = match new_buffer(alloc) {
         Ok(buffer) => buffer,

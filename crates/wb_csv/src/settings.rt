@@ -31,6 +31,11 @@ pub struct Settings {
     pub least: usize,
     /// Whether records may have other numbers of fields than the first one
     pub ragged: bool,
+    /// The byte between the fields of a record. It takes the place of the comma as the input is
+    /// read, and the comma its place, and so again as a field is written
+    pub delimiter: u8,
+    /// How many bytes a record may have, with its end
+    pub limit: usize,
 }
 
 /// What a record lacks.

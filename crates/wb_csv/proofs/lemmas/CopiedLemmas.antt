@@ -13,7 +13,7 @@ use Rattle.format_csv.proofs.lemmas.ReaderLemmas.{none-follows}
 use Rattle.wb_base.proofs.lemmas.KnownLemmas.{appends-start, appends-more}
 use Rattle.wb_csv.specs.Lines.{line_of}
 use Rattle.wb_csv.specs.Settings.{FitAll}
-use Rattle.wb_csv.specs.Copying.{lines_of, HasCounted, Copies, IsFailureOf, IsOfInput, IsBegun, ReadsLines, StopsAfter, WritesOn, StopsWith, CopiesAll, CopiesUntil, TellsText}
+use Rattle.wb_csv.specs.Copying.{lines_of, HasCounted, Copies, IsFailureOf, IsOfInput, IsBegun, ReadsLines, StopsAfter, WritesOn, StopsWith, CopiesAll, CopiesUntil, TellsText, AreShort}
 use Rattle.wb_csv.specs.declared.settings.Settings.{Settings}
 use Rattle.wb_csv.specs.declared.progress.Progress.{Progress}
 use Rattle.wb_csv.specs.declared.failure.Failure.{Failure}
@@ -35,9 +35,9 @@ module _ (s : Settings) where
 
   -- what was begun is begun with a piece
   pub begun-pushed : (f g : ReaderState Row) (p : Progress) (piece : List ℕ) → IsBegun s f p
-      → g ≡ pushed f piece → ReadsAlso f piece g → fed_of g + 1 < 2 ^ 64 → IsBegun s g p
-  begun-pushed f g p piece begun e reads short =
-      (begun.0 ++ piece, (begun.1.0, counted-pushed s f g p begun.0 piece begun.1.0 begun.1.1 e reads short))
+      → f.ended ≡ false → g ≡ pushed f piece → ReadsAlso f piece g → fed_of g + 1 < 2 ^ 64 → IsBegun s g p
+  begun-pushed f g p piece begun goes e reads short =
+      (begun.0 ++ piece, (begun.1.0, counted-pushed s f g p begun.0 piece begun.1.0 begun.1.1 goes e reads short))
 
   -- and at the end
   pub begun-ended : (f g : ReaderState Row) (p : Progress) → IsBegun s f p → g ≡ ended_after f
@@ -55,7 +55,7 @@ module _ (s : Settings) where
       (p q : Progress) (piece : List ℕ) (copies : Copies s input held now f p)
       (e : g ≡ pushed f piece) (reads : ReadsAlso f piece g) (short : fed_of g + 1 < 2 ^ 64) where
     counts : HasCounted s g p (input ++ piece) copies.rows
-    counts = counted-pushed s f g p input piece copies.rows copies.counts e reads short
+    counts = counted-pushed s f g p input piece copies.rows copies.counts copies.goes_on e reads short
 
     -- the records that are there with a piece are copied
     pub copies-piece : WritesOn s g p now k q new → k.ended ≡ g.ended
@@ -99,6 +99,8 @@ module _ (s : Settings) where
             subst (λ b. AreRecords b rows []) (append-nil input) (subst (λ a. AreRecords (input ++ []) rows (a ++ [])) none all),
             w.1.0.fits,
             lines-more copies.rows w.0 text held now new copies.wrote appends w.1.1,
+            subst (λ b. AreShort s.limit b rows []) (append-nil input)
+                (subst (λ a. AreShort s.limit (input ++ []) rows (a ++ [])) none (w.1.0.shorts [] (none-follows k.ended))),
           ),
         )
 
@@ -140,6 +142,11 @@ begun-same s t same f p begun = subst (λ r. IsBegun r f p) same begun
 pub on-ok : {T E P Q : Type 0} (r : Result T E) → (P → Q) → OnOk r P → OnOk r Q
 on-ok (Ok x) f h = f h
 on-ok (Err e) f h = tt
+
+-- what holds anyway holds of it
+pub any-ok : {T E P : Type 0} (r : Result T E) → P → OnOk r P
+any-ok (Ok x) p = p
+any-ok (Err e) p = tt
 
 -- and from two such
 pub on-both : {T E P Q S : Type 0} (r : Result T E) → (P → Q → S) → OnOk r P → OnOk r Q → OnOk r S

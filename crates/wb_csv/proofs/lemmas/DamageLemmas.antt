@@ -15,10 +15,14 @@ use Rattle.format_csv.specs.declared.grammar.Row.{Row}
 use Rattle.format_csv.proofs.lemmas.ReaderLemmas.{none-follows, append-some}
 use Rattle.wb_base.specs.Excerpts.{IsExcerpt}
 use Rattle.wb_base.specs.declared.excerpt.Excerpt.{Excerpt}
+use Rattle.wb_base.specs.Exchanging.{exchanged}
+use Rattle.wb_base.proofs.lemmas.ExchangeLemmas.{exchanged-append}
+use Rattle.wb_csv.specs.Lines.{exchanged_by}
 use Rattle.wb_csv.specs.Failures.{fault_at}
+use Rattle.wb_csv.specs.declared.failure.Failure.TheVariants.{Long}
 use Rattle.wb_csv.specs.Progress.{IsOther}
 use Rattle.wb_csv.specs.Settings.{Refuses, width_of}
-use Rattle.wb_csv.specs.Copying.{lines_of, HasCounted, BreaksAt, IsUneven, IsFailureOf, IsDamageAfter, IsBegun, ReadsLines, StopsAfter}
+use Rattle.wb_csv.specs.Copying.{lines_of, HasCounted, BreaksAt, IsUneven, IsLong, IsOver, IsFailureOf, IsDamageAfter, IsBegun, ReadsLines, StopsAfter}
 use Rattle.wb_csv.specs.declared.settings.Settings.{Settings}
 use Rattle.wb_csv.specs.declared.progress.Progress.{Progress}
 use Rattle.wb_csv.specs.declared.failure.Failure.{Failure}
@@ -91,12 +95,12 @@ never-feed bytes (inl (values, (text, (whole, spells, comma, ends)))) = ends [] 
 never-feed bytes (inr (open_quote, none)) = let f = none in cc
 
 -- what is wrong does not change with what follows
-fault-stays : (ended : Bool) (ahead rest follow : List ℕ)
+fault-stays : (delimiter : ℕ) (ended : Bool) (ahead rest follow : List ℕ)
     → ((more : List ℕ) → MayFollow ended more false → IsDamagedAt (ahead ++ more) (rest ++ more))
-    → MayFollow ended follow false → fault_at rest ≡ fault_at (rest ++ follow)
-fault-stays ended ahead (b ∷ bs) follow d may = refl
-fault-stays true ahead [] follow d may = ap fault_at (sym may.0)
-fault-stays false ahead [] follow d may = absurd (never-feed (ahead ++ 10 ∷ []) (d (10 ∷ []) tt))
+    → MayFollow ended follow false → fault_at delimiter rest ≡ fault_at delimiter (rest ++ follow)
+fault-stays delimiter ended ahead (b ∷ bs) follow d may = refl
+fault-stays delimiter true ahead [] follow d may = ap (fault_at delimiter) (sym may.0)
+fault-stays delimiter false ahead [] follow d may = absurd (never-feed (ahead ++ 10 ∷ []) (d (10 ∷ []) tt))
 
 -- the damage lies in what is ahead
 pub damage-within : (f : ReaderState Row) (place : ℕ) → FindsDamage f place
@@ -127,6 +131,15 @@ excerpt-within (Some x) text before rest follow h = record {
   line_after = h.line_after;
 }
 
+-- the same of exchanged bytes
+exchanged-within : (one other : ℕ) (excerpt : Option Excerpt) (text before rest follow : List ℕ)
+    → IfSome excerpt (IsExcerpt (exchanged one other before) (exchanged one other rest))
+    → IfSome excerpt (IsExcerpt (exchanged one other (text ++ before)) (exchanged one other (rest ++ follow)))
+exchanged-within one other excerpt text before rest follow h =
+    subst (λ b. IfSome excerpt (IsExcerpt b (exchanged one other (rest ++ follow)))) (sym (exchanged-append one other text before))
+    (subst (λ r. IfSome excerpt (IsExcerpt (exchanged one other text ++ exchanged one other before) r)) (sym (exchanged-append one other rest follow))
+    (excerpt-within excerpt (exchanged one other text) (exchanged one other before) (exchanged one other rest) (exchanged one other follow) h))
+
 module _ (s : Settings) where
   -- the line feeds before what is ahead can be counted with it
   pub begun-fits : (f : ReaderState Row) (p : Progress) → IsBegun s f p → f.ahead ≢ []
@@ -136,11 +149,17 @@ module _ (s : Settings) where
       let lines = rows-lines (input ++ []) rows (f.ahead ++ []) all (append-some f.ahead [] some) in
       omega (arith, ap length lines.whole, length-append lines.text (f.ahead ++ []), length-append f.ahead [], length-append input [], feeds-within lines.text, lines.counted, h.feeds, h.read.fed, h.short)
 
+  -- and so can the line after them, if something is ahead
+  pub line-fits : (f : ReaderState Row) (p : Progress) (n : ℕ) → IsBegun s f p → n ≡ length f.ahead
+      → s.limit < n → p.feeds + 1 < 2 ^ 64
+  line-fits f p n begun e l =
+      omega (arith, begun-fits f p begun (λ none. omega (arith, l, e, ap length none)))
+
   -- damage that was found is damage of the whole input
   counted-breaks : (f : ReaderState Row) (p : Progress) (input : List ℕ)
       (rows : List (List (List ℕ))) (place : ℕ) (failure : Failure) (follow : List ℕ)
       → HasCounted s f p input rows → FindsDamage f place
-      → IsDamageAfter p.feeds (take (place - f.place) f.ahead) (drop (place - f.place) f.ahead) failure
+      → IsDamageAfter s p.feeds (take (place - f.place) f.ahead) (drop (place - f.place) f.ahead) failure
       → MayFollow f.ended follow false → IsFailureOf s (input ++ follow) rows failure
   counted-breaks f p input rows place failure follow h finds (position, (excerpt, (is, line, column, shows))) may =
       let some = damage-some f place finds in
@@ -150,7 +169,7 @@ module _ (s : Settings) where
       let reads = h.read.reads follow may in
       let lines = rows-lines (input ++ follow) rows (f.ahead ++ follow) reads (append-some f.ahead follow some) in
       let cut : f.ahead ≡ before ++ rest = sym (take-append-drop n f.ahead) ∙ ap (λ r. before ++ r) (damage-rest f place finds) in
-      let breaks : BreaksAt (input ++ follow) rows position (fault_at (drop n f.ahead)) excerpt = record {
+      let breaks : BreaksAt s (input ++ follow) rows position (fault_at s.delimiter (drop n f.ahead)) excerpt = record {
         begun = f.ahead ++ follow;
         before = lines.text ++ before;
         rest = rest ++ follow;
@@ -164,9 +183,9 @@ module _ (s : Settings) where
           column ∙ ap (λ m. 1 + m) (sym (after-begun lines.text before lines.begins)),
         );
         names =
-            ap fault_at (damage-rest f place finds) ∙ fault-stays f.ended f.ahead rest follow (λ more m. (finds.1.1 more m).1) may;
+            ap (fault_at s.delimiter) (damage-rest f place finds) ∙ fault-stays s.delimiter f.ended f.ahead rest follow (λ more m. (finds.1.1 more m).1) may;
         shows =
-            excerpt-within excerpt lines.text before rest follow (subst (λ r. IfSome excerpt (IsExcerpt before r)) (damage-rest f place finds) shows);
+            exchanged-within 44 s.delimiter excerpt lines.text before rest follow (subst (λ r. IfSome excerpt (IsExcerpt (exchanged_by s before) (exchanged_by s r))) (damage-rest f place finds) shows);
       } in
       subst (λ x. IsFailureOf s (input ++ follow) rows x) (sym is) breaks
 
@@ -174,7 +193,7 @@ module _ (s : Settings) where
   pub stops-damaged : (f g : ReaderState Row) (p q : Progress) (text : List ℕ)
       (place : ℕ) (failure : Failure)
       → ReadsLines s f p g q text → g.ended ≡ f.ended → FindsDamage g place
-      → IsDamageAfter q.feeds (take (place - g.place) g.ahead) (drop (place - g.place) g.ahead) failure
+      → IsDamageAfter s q.feeds (take (place - g.place) g.ahead) (drop (place - g.place) g.ahead) failure
       → StopsAfter s f p failure text
   stops-damaged f g p q text place failure reads e finds is told input rows h =
       let w = reads input rows h in (
@@ -182,6 +201,42 @@ module _ (s : Settings) where
         (
           w.1.1,
           λ follow may. counted-breaks g q input (rows ++ w.0) place failure follow w.1.0 finds is (subst (λ b. MayFollow b follow false) (sym e) may),
+        ),
+      )
+
+  -- a record that is too long is so in the whole input
+  counted-long : (f : ReaderState Row) (p : Progress) (input : List ℕ) (rows : List (List (List ℕ)))
+      (failure : Failure) (follow : List ℕ) → HasCounted s f p input rows
+      → IsOver s.limit (f.ahead ++ follow) → failure ≡ Long (p.feeds + 1) s.limit
+      → MayFollow f.ended follow false → IsFailureOf s (input ++ follow) rows failure
+  counted-long f p input rows failure follow h over is may =
+      let reads = h.read.reads follow may in
+      let some : f.ahead ++ follow ≢ [] = λ e. omega (arith, over.0, ap length e) in
+      let lines = rows-lines (input ++ follow) rows (f.ahead ++ follow) reads some in
+      let long : IsLong s (input ++ follow) rows (p.feeds + 1) s.limit = record {
+        before = lines.text;
+        begun = f.ahead ++ follow;
+        reads = reads;
+        whole = lines.whole;
+        stands = (omega (arith, lines.counted, h.feeds), omega (arith, lines.begins));
+        allowed = refl;
+        over = over;
+      } in
+      subst (λ x. IsFailureOf s (input ++ follow) rows x) (sym is) long
+
+  -- where a record that is too long comes after what was read, the failure says so
+  pub stops-long : (f g : ReaderState Row) (p q : Progress) (text : List ℕ) (failure : Failure)
+      → ReadsLines s f p g q text → g.ended ≡ f.ended
+      → ((follow : List ℕ) → MayFollow g.ended follow false → IsOver s.limit (g.ahead ++ follow))
+      → failure ≡ Long (q.feeds + 1) s.limit → StopsAfter s f p failure text
+  stops-long f g p q text failure reads e over is told input rows h =
+      let w = reads input rows h in (
+        w.0,
+        (
+          w.1.1,
+          λ follow may.
+              let goes = subst (λ b. MayFollow b follow false) (sym e) may in
+              counted-long g q input (rows ++ w.0) failure follow w.1.0 (over follow goes) is goes,
         ),
       )
 

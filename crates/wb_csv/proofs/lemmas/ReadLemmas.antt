@@ -1,5 +1,5 @@
 -- What was read, as one record more comes.
-use Rattle.std.proofs.Common.{◌≡◌, ℕ, ◌+◌, ◌≤◌, ◌<◌, ◌^◌, List, [], ◌∷◌, ◌++◌, length, refl, ap, sym, ◌∙◌, subst, arith, append_assoc, length-drop, length-append}
+use Rattle.std.proofs.Common.{◌≡◌, false, ℕ, ◌+◌, ◌≤◌, ◌<◌, ◌^◌, List, [], ◌∷◌, ◌++◌, length, refl, ap, sym, ◌∙◌, subst, arith, append_assoc, length-drop, length-append}
 use Rattle.std.specs.Prelude.{Option, Some, All}
 use Rattle.std.proofs.lemmas.List.{append-nil}
 use Rattle.std.proofs.lemmas.List.Elements.{All-push}
@@ -16,7 +16,14 @@ use Rattle.wb_csv.specs.Progress.{feeds_of, kept_width}
 use Rattle.wb_csv.specs.Copying.{lines_of, HasCounted, IsBegun, ReadsLines}
 use Rattle.wb_csv.specs.declared.settings.Settings.{Settings}
 use Rattle.wb_csv.specs.declared.progress.Progress.{Progress}
+use Rattle.format_csv.specs.Filling.{BeginsJust}
 use Rattle.wb_csv.proofs.lemmas.FeedLemmas.{rows-within}
+use Rattle.wb_csv.proofs.lemmas.LimitLemmas.{shorts-pushed, shorts-ended, shorts-value}
+
+-- a call consumed a record of so many bytes
+abbrev pub Takes : ReaderState Row → List (List ℕ) → ReaderState Row → ℕ → Type 0
+Takes old fields new n = (0 < n) × (n ≤ length old.ahead)
+    × BeginsJust old.ended old.ahead fields new.ahead × (new ≡ taken_by old n)
 
 -- the number of fields of the first record, with one record more
 width-push : (rows : List (List (List ℕ))) (row : List (List ℕ))
@@ -53,14 +60,15 @@ module _ (s : Settings) where
   -- with a piece more the same was read
   pub counted-pushed : (f g : ReaderState Row) (p : Progress) (input piece : List ℕ)
       (rows : List (List (List ℕ)))
-      → HasCounted s f p input rows → g ≡ pushed f piece → ReadsAlso f piece g
+      → HasCounted s f p input rows → f.ended ≡ false → g ≡ pushed f piece → ReadsAlso f piece g
       → fed_of g + 1 < 2 ^ 64 → HasCounted s g p (input ++ piece) rows
-  counted-pushed f g p input piece rows h e reads short = record {
+  counted-pushed f g p input piece rows h goes e reads short = record {
     read = reads input rows h.read;
     short = short;
     feeds = h.feeds;
     width = h.width;
     fits = h.fits;
+    shorts = shorts-pushed s.limit f g input piece rows goes e h.shorts;
   }
 
   -- at the end the same was read
@@ -74,6 +82,7 @@ module _ (s : Settings) where
     feeds = h.feeds;
     width = h.width;
     fits = h.fits;
+    shorts = shorts-ended s.limit f g input rows e h.shorts;
   }
 
   -- what is ahead after a record, and where it begins
@@ -85,15 +94,16 @@ module _ (s : Settings) where
   counted-value : (f g : ReaderState Row) (p q : Progress) (input : List ℕ)
       (rows : List (List (List ℕ))) (row : List (List ℕ)) (n : ℕ)
       → HasCounted s f p input rows → HasRead g input (rows ++ row ∷ [])
-      → n ≤ length f.ahead → g ≡ taken_by f n
+      → n ≤ length f.ahead → BeginsJust f.ended f.ahead row g.ahead → g ≡ taken_by f n → n ≤ s.limit
       → q.feeds ≡ p.feeds + feeds_of row → q.width ≡ kept_width p.width (length row)
       → Fits s p.width row → HasCounted s g q input (rows ++ row ∷ [])
-  counted-value f g p q input rows row n h read l e feeds width fits = record {
+  counted-value f g p q input rows row n h read l begins e within feeds width fits = record {
     read = read;
     short = subst (λ m. m + 1 < 2 ^ 64) (sym (fed-taken f g n l e)) h.short;
     feeds = omega (arith, feeds, h.feeds, sum_by_push feeds_of rows row);
     width = width ∙ ap (λ w. kept_width w (length row)) h.width ∙ width-push rows row;
     fits = fits-push rows row p.width h.width h.fits fits;
+    shorts = shorts-value s.limit f g input rows row n h.shorts l begins e within;
   }
 
   -- what was begun goes on
@@ -119,13 +129,13 @@ module _ (s : Settings) where
       → ReadsLines s f p g q text
       → ((input : List ℕ) (rows : List (List (List ℕ))) → HasRead g input rows
       → HasRead k input (rows ++ row ∷ []))
-      → n ≤ length g.ahead → k ≡ taken_by g n
+      → Takes g row k n → n ≤ s.limit
       → o.feeds ≡ q.feeds + feeds_of row → o.width ≡ kept_width q.width (length row)
       → Fits s q.width row → more ≡ text ++ line_of s row → ReadsLines s f p k o more
-  reads-row f g k p q o text more row n was reads l e feeds width fits is input rows h =
+  reads-row f g k p q o text more row n was reads (some, l, begins, e) within feeds width fits is input rows h =
       let w = was input rows h in
       let all = rows ++ w.0 in
-      let counts = counted-value g k q o input all row n w.1.0 (reads input all w.1.0.read) l e feeds width fits in (
+      let counts = counted-value g k q o input all row n w.1.0 (reads input all w.1.0.read) l begins e within feeds width fits in (
         w.0 ++ row ∷ [],
         (
           subst (λ rs. HasCounted s k o input rs) (append_assoc rows w.0 (row ∷ [])) counts,

@@ -6,10 +6,11 @@ use Rattle.std.specs.Io.KnownBytes.{Consumes, IsAtEnd, prepend_known}
 use Rattle.winnow_reader.specs.Reading.{MayFollow}
 use Rattle.format_csv.specs.Marks.{HasText, IsRefused, BeginsText, RefusesText}
 use Rattle.format_csv.specs.declared.marks.Mark.{Mark}
-use Rattle.wb_csv.specs.Copying.{CopiesAll, CopiesUntil, TellsText, StopsInput}
+use Rattle.wb_csv.specs.Copying.{CopiesAll, CopiesUntil, TellsText, StopsBytes}
 use Rattle.wb_csv.specs.declared.settings.Settings.{Settings}
 use Rattle.wb_csv.specs.declared.failure.Failure.{Failure}
 use Rattle.wb_csv.specs.declared.failure.Failure.TheVariants.{Marked}
+use Rattle.wb_base.specs.Exchanging.{exchanged, exchanged_known}
 use Rattle.wb_base.proofs.lemmas.KnownLemmas.{appends-start}
 
 -- any bytes may follow a start, unless the input has ended
@@ -22,6 +23,12 @@ if-some : {P Q : List ℕ → Type 0} (known : Option (List ℕ)) → ((bytes : 
     → IfSome known P → IfSome known Q
 if-some None f h = tt
 if-some (Some bytes) f h = f bytes h
+
+-- what holds of exchanged bytes holds of the bytes by way of the exchange
+pub exchanged-some : (P : List ℕ → Type 0) (one other : ℕ) (known : Option (List ℕ))
+    → IfSome (exchanged_known one other known) P → IfSome known (λ bytes. P (exchanged one other bytes))
+exchanged-some P one other None h = tt
+exchanged-some P one other (Some bytes) h = h
 
 -- the bytes so far were consumed of an input, of which nothing remains if it has ended
 pub record HasStart (ended : Bool) (had has : Option (List ℕ)) (start : List ℕ) : Type 0 where
@@ -58,14 +65,14 @@ module _ (s : Settings) (ended : Bool) where
   pub text-stops : (had has held now : Option (List ℕ)) (start text : List ℕ) (failure : Failure)
       → HasStart ended had has start → BeginsText true ended start text
       → IfSome (prepend_known text has) (λ t. CopiesUntil s t failure held now)
-      → IfSome had (λ bytes. StopsInput s bytes failure held now)
+      → IfSome had (λ bytes. StopsBytes s bytes failure held now)
   text-stops had has held now start text failure from begins h =
       if-some had (λ bytes k told. inr k) (text-known (λ t. CopiesUntil s t failure held now) had has start text from begins h)
 
   -- the step of `mark-stops`
   mark-step : (had has held : Option (List ℕ)) (start : List ℕ) (mark : Mark)
       → Consumes had has start → (ended ≡ true → IsAtEnd has) → RefusesText true ended start mark
-      → IfSome had (λ bytes. StopsInput s bytes (Marked mark) held held)
+      → IfSome had (λ bytes. StopsBytes s bytes (Marked mark) held held)
   mark-step None has held start mark took end refuses = tt
   mark-step (Some xs) None held start mark took end refuses = absurd took
   mark-step (Some xs) (Some ys) held start mark took end refuses = λ told. inl (
@@ -80,7 +87,7 @@ module _ (s : Settings) (ended : Bool) where
   -- nothing is written if a mark is refused
   pub mark-stops : (had has held : Option (List ℕ)) (start : List ℕ) (mark : Mark)
       → HasStart ended had has start → RefusesText true ended start mark
-      → IfSome had (λ bytes. StopsInput s bytes (Marked mark) held held)
+      → IfSome had (λ bytes. StopsBytes s bytes (Marked mark) held held)
   mark-stops had has held start mark from refuses =
       mark-step had has held start mark from.took from.end refuses
 

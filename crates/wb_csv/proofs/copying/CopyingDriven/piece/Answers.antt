@@ -6,14 +6,14 @@ use Rattle.wb_csv.proofs.copying.CopyingDriven.piece.Goals as goal
 pub write_ahead-requires : goal.write_ahead-requires
 write_ahead-requires g c =
     let old = c.args.self.now in
-    begun-pushed old.settings old.reader c.push.new.reader old.progress c.args.piece.now c.requires.0 c.in_default.ensures.ok c.in_default.ensures.read c.in_default.ensures.counted
+    begun-pushed old.settings old.reader c.push.new.reader old.progress c.args.piece.now c.requires.0 c.requires.1 c.in_default.ensures.ok c.in_default.ensures.read c.in_default.ensures.counted
 
 pub returns-clause-ready : goal.returns-clause-ready
 returns-clause-ready g c =
     let old = c.args.self.now in
     let new = c.write_ahead.new.self in
     let pushed = c.push.new.reader in
-    let begun = begun-pushed old.settings old.reader pushed old.progress c.args.piece.now c.requires.0 c.in_default.ensures.ok c.in_default.ensures.read c.in_default.ensures.counted in
+    let begun = begun-pushed old.settings old.reader pushed old.progress c.args.piece.now c.requires.0 c.requires.1 c.in_default.ensures.ok c.in_default.ensures.read c.in_default.ensures.counted in
     let goes = ap (λ (f : ReaderState _). f.ended) c.in_default.ensures.ok ∙ c.requires.1 in
     on-three c.write_ahead.result
     (λ same writes ended. (

@@ -1,6 +1,6 @@
 use Rattle.std.proofs.Common.{◌≡◌, ◌<◌, vec_len}
 use Rattle.std.specs.Io.KnownBytes.{Consumes}
-use Rattle.wb_csv.proofs.program.copy_records.Given as goal
+use Rattle.wb_csv.proofs.program.copy_bytes.Given as goal
 
 -- the bytes so far were taken of the input, and nothing is written
 abbrev pub invariant-loop : goal.invariant-loop
