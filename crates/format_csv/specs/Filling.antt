@@ -1,6 +1,6 @@
 -- The results of filling a record. 44 is a comma, 13 CR, and 10 LF.
 use Rattle.std.specs.Prelude.{◌≡◌, ◌≢◌, ℕ, ◌≤◌, Bool, true, false, not, List, [], ◌∷◌, ◌++◌, length, drop, ◌⊎◌}
-use Rattle.winnow.specs.Reading.{MayFollow}
+use Rattle.winnow_reader.specs.Reading.{MayFollow}
 use Rattle.format_lemmas.specs.Bytes.{StartsWith}
 use Rattle.format_csv.specs.Language.{EndsRecord, RecordAhead}
 use Rattle.format_csv.specs.Answers.{IsBegun}

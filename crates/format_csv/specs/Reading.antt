@@ -1,8 +1,8 @@
 -- Records that a reader reads of bytes that come in pieces.
 use Rattle.std.specs.Prelude.{◌≡◌, ℕ, ◌+◌, false, List, ◌++◌, length}
-use Rattle.winnow.specs.Place.{IsByteSlice}
-use Rattle.winnow.specs.State.{ReaderState}
-use Rattle.winnow.specs.Reading.{MayFollow}
+use Rattle.winnow_reader.specs.Place.{IsByteSlice}
+use Rattle.winnow_reader.specs.State.{ReaderState}
+use Rattle.winnow_reader.specs.Reading.{MayFollow}
 use Rattle.winnow_parser.specs.Outcome.{Meaning}
 use Rattle.format_csv.specs.Meanings.{OneRow}
 use Rattle.format_csv.specs.Widths.{RowVec}

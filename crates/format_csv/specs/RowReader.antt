@@ -1,8 +1,8 @@
 -- The records that a `RowReader` has read of bytes in pieces, and the result of a call.
 use Rattle.std.specs.Prelude.{◌≡◌, ℕ, ◌≤◌, ◌<◌, false, List, [], ◌∷◌, ◌++◌, length, Result, Ok, Err}
-use Rattle.winnow.specs.Reading.{MayFollow}
-use Rattle.winnow.specs.State.{ReaderState, taken_by, fed_of}
-use Rattle.winnow.specs.SameValues.{IsThrough}
+use Rattle.winnow_reader.specs.Reading.{MayFollow}
+use Rattle.winnow_reader.specs.State.{ReaderState, taken_by, fed_of}
+use Rattle.winnow_reader.specs.SameValues.{IsThrough}
 use Rattle.winnow_reader.specs.declared.next.Next.{Next}
 use Rattle.winnow_reader.specs.declared.next.Next.TheVariants.{Value, NeedsMore, Done}
 use Rattle.format_csv.specs.Tables.{AreRecords}

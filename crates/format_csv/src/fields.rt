@@ -1,19 +1,19 @@
 //! The parsers of a field, plain or quoted.
 
 ghost use Rattle.std.specs.Prelude.{◌≡◌, None};
-ghost use Rattle.winnow.specs.Answer.{ahead, outcome};
-ghost use Rattle.winnow.specs.Errors.{AnyError};
+ghost use Rattle.winnow_parser.specs.Answer.{ahead, outcome};
+ghost use Rattle.winnow_parser.specs.Errors.{AnyError};
 ghost use Rattle.winnow_count.specs.CountRange.{HasCounts};
 ghost use Rattle.format_csv.specs.Meanings.{IsChunk, PlainField, QuotedField};
 ghost use Rattle.format_csv.specs.Meanings.{IsParser-PlainField, IsParser-QuotedField};
 
 use crate::Chunks;
 use std::alloc::Global;
-use winnow::combinator::{CutErr, Delimited, cut_err, delimited, repeat};
-use winnow::error::ParserError;
-use winnow::stream::{AsBytes, Stream, StreamIsPartial};
-use winnow::token::{OneOf, TakeTill, one_of, take_till};
-use winnow::{Failure, ModalResult, Parser};
+use winnow_combinator::{CutErr, Delimited, cut_err, delimited, repeat};
+use winnow_error::ParserError;
+use winnow_parser::{Failure, ModalResult, Parser};
+use winnow_stream::{AsBytes, Stream, StreamIsPartial};
+use winnow_token::{OneOf, TakeTill, one_of, take_till};
 
 // Returns the parser of what stands between two quotes. It cuts where the closing one is missing.
 fn chunk() -> Delimited<OneOf<u8>, TakeTill<u8>, CutErr<OneOf<u8>>>

@@ -7,7 +7,8 @@ ghost use Rattle.winnow_count.specs.AccumulationLaws.{concat_taken};
 ghost use Rattle.format_csv.specs.Gathering.{EndsWithQuote};
 
 use std::alloc::{AllocError, Global};
-use winnow::stream::{Accumulate, AsBytes};
+use winnow_count::Accumulate;
+use winnow_stream::AsBytes;
 
 /// The chunks of a quoted field, each with a quote after it.
 ///

@@ -1,16 +1,16 @@
 //! The parser of a record, and those of its fields and of its end.
 
-ghost use Rattle.winnow.specs.Errors.{AnyError};
+ghost use Rattle.winnow_parser.specs.Errors.{AnyError};
 ghost use Rattle.format_csv.specs.Meanings.{FieldList, RecordEnd, OneRow, IsParser-OneRow};
 ghost use Rattle.format_csv.specs.Meanings.{IsParser-FieldList, IsParser-RecordEnd};
 
 use crate::{Plain, Quoted};
 use std::alloc::Global;
-use winnow::combinator::{alt, cut_err, eof, not, preceded, separated, terminated};
-use winnow::error::ParserError;
-use winnow::stream::{AsBytes, Stream, StreamIsPartial};
-use winnow::token::one_of;
-use winnow::{ModalResult, Parser};
+use winnow_combinator::{alt, cut_err, eof, not, preceded, separated, terminated};
+use winnow_error::ParserError;
+use winnow_parser::{ModalResult, Parser};
+use winnow_stream::{AsBytes, Stream, StreamIsPartial};
+use winnow_token::one_of;
 
 /// The parser of fields with commas between them: one or more fields of either kind.
 #[derive(Clone, Copy, Debug)]

@@ -1,15 +1,15 @@
 //! The law of records that are read from pieces.
 
 ghost use Rattle.std.specs.Prelude.{ℕ, List};
-ghost use Rattle.winnow.specs.State.{ReaderState};
-ghost use Rattle.winnow.specs.Reading.{HasRead};
-ghost use Rattle.winnow.specs.Answering.{FailsAt, IdlesAt};
-ghost use Rattle.winnow.specs.SameValues.{IsThrough};
+ghost use Rattle.winnow_reader.specs.State.{ReaderState};
+ghost use Rattle.winnow_reader.specs.Reading.{HasRead};
+ghost use Rattle.winnow_reader.specs.Answering.{FailsAt, IdlesAt};
+ghost use Rattle.winnow_reader.specs.SameValues.{IsThrough};
 ghost use Rattle.format_csv.specs.Reading.{BeginsWith, FindsDamage};
 ghost use Rattle.format_csv.specs.Widths.{RowVec};
 
 use crate::Row;
-use winnow::reader::Record;
+use winnow_reader::Record;
 
 /// The law of a reader of records, in the words of the format. It does nothing when called: its
 /// contract is the law.

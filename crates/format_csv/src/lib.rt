@@ -10,7 +10,7 @@
 //! says where one is damaged. [`write_record`] writes a record, which [`read_record`] reads back.
 //! [`first_uneven`] finds the first record that has another number of fields than the first one.
 //!
-//! A [`Row`] is a record of a reader, too: a `winnow::reader::ByteReader` of it reads records from
+//! A [`Row`] is a record of a reader, too: a `winnow_reader::ByteReader` of it reads records from
 //! bytes that come in pieces. [`rows_in_pieces_law`] says in the words of the format what it reads.
 //!
 //! A [`RowReader`] fills a [`ByteRecord`] that its caller keeps and that serves for all records,

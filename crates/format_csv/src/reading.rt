@@ -1,10 +1,10 @@
 //! Reading a record from a stream, from bytes that come in pieces, and all records of a text.
 
 ghost use Rattle.std.specs.Prelude.{◌≡◌, [], false, IfOk, IfErr};
-ghost use Rattle.winnow.specs.Outcome.{Moves};
-ghost use Rattle.winnow.specs.Answer.{ahead};
-ghost use Rattle.winnow.specs.Errors.{AnyError};
-ghost use Rattle.winnow.specs.Place.{IsByteSlice, SlicesStay-bytes};
+ghost use Rattle.winnow_parser.specs.Outcome.{Moves};
+ghost use Rattle.winnow_parser.specs.Answer.{ahead};
+ghost use Rattle.winnow_parser.specs.Errors.{AnyError};
+ghost use Rattle.winnow_reader.specs.Place.{IsByteSlice, SlicesStay-bytes};
 ghost use Rattle.winnow_stream.specs.SliceBytes.{SlicesHaveBytes};
 ghost use Rattle.format_lemmas.specs.Bytes.{bytes_of};
 ghost use Rattle.format_csv.specs.Answers.{IsAnswer, GivesEach};
@@ -14,11 +14,10 @@ ghost use Rattle.format_csv.specs.Tables.{rows_in, AreRecords, IsDamage};
 
 use crate::Row;
 use std::alloc::Global;
-use winnow::error::{EmptyError, ParserError};
-use winnow::reader::{Record, RecordInput};
-use winnow::stream::laws::slice_bytes_law;
-use winnow::stream::{AsBytes, Stream, StreamIsPartial};
-use winnow::{Failure, ModalResult, Parser, WholeResult};
+use winnow_error::{EmptyError, ParserError};
+use winnow_parser::{Failure, ModalResult, Parser, WholeResult};
+use winnow_reader::{Record, RecordInput};
+use winnow_stream::{AsBytes, Stream, StreamIsPartial, slice_bytes_law};
 
 /// Reads one record from a stream of bytes, and moves the stream past its end.
 ///

@@ -8,8 +8,8 @@ use crate::scan::RowState;
 use csv::ByteRecord;
 use std::alloc::{AllocError, Global};
 use std::marker::Model;
-use winnow::reader::{ByteReader, Next};
-use winnow::scan::Scan;
+use winnow_reader::{ByteReader, Next};
+use winnow_scan::Scan;
 
 /// Why a reader has no record. What it has ahead is as before, so the same call may be made again:
 /// damage is found again, and memory may be there then.
@@ -60,7 +60,7 @@ enum Stage {
 
 impl Model for RowReader {
     ghost use Rattle.std.specs.Prelude.{◌≡◌, ◌≤◌, take, length, Some};
-    ghost use Rattle.winnow.specs.State.{ReaderState};
+    ghost use Rattle.winnow_reader.specs.State.{ReaderState};
     ghost use Rattle.format_csv.specs.declared.grammar.Row.{Row};
     ghost use Rattle.format_csv.specs.Scan.{run};
     ghost use Rattle.format_csv.specs.declared.scan.RowState.TheVariants.{Start};
@@ -76,8 +76,8 @@ impl Model for RowReader {
 impl RowReader {
     ghost use Rattle.std.specs.Prelude.{◌≡◌, ◌≢◌, ◌+◌, ◌≤◌, ◌<◌, ◌^◌, [], true, false, length};
     ghost use Rattle.std.specs.Prelude.{length as len, OnOk, OnErr, IfOk};
-    ghost use Rattle.winnow.specs.State.{pushed, ended_after, unspent, taken_by, fed_of};
-    ghost use Rattle.winnow.specs.SameValues.{IsThrough};
+    ghost use Rattle.winnow_reader.specs.State.{pushed, ended_after, unspent, taken_by, fed_of};
+    ghost use Rattle.winnow_reader.specs.SameValues.{IsThrough};
     ghost use Rattle.csv.specs.Records.{fields_of};
     ghost use Rattle.format_csv.specs.Filling.{IsUnfinished, Fills};
     ghost use Rattle.format_csv.specs.RowReader.{HasRead, ReadsAlso, ReadsThrough};
@@ -237,7 +237,7 @@ impl RowReader {
 
 impl RowReader {
     ghost use Rattle.std.specs.Prelude.{◌≡◌, ◌+◌, ◌≤◌};
-    ghost use Rattle.winnow.specs.State.{bytes_kept, fed_of};
+    ghost use Rattle.winnow_reader.specs.State.{bytes_kept, fed_of};
 
     /// Returns how many bytes are kept: those ahead, and those that records took since the last
     /// piece.

@@ -1,13 +1,13 @@
 //! The scan of a record.
 
 ghost use Rattle.std.specs.Prelude.{◌≡◌, Some};
-ghost use Rattle.winnow.specs.Scanning.{GoesOn};
+ghost use Rattle.winnow_scan.specs.Scanning.{GoesOn};
 ghost use Rattle.format_csv.specs.Reading.{RowInPieces};
 ghost use Rattle.format_csv.specs.Scan.{step, run};
 ghost use Rattle.format_csv.specs.declared.scan.RowState.TheVariants.{Start};
 
 use crate::Row;
-use winnow::scan::Scan;
+use winnow_scan::Scan;
 
 /// Where the scan of a record is.
 #[derive(Clone, Copy, Debug, Drop, PartialEq, Eq)]

@@ -1,7 +1,7 @@
 -- Tokens that a reader reads of bytes that come in pieces.
 use Rattle.std.specs.Prelude.{◌≡◌, ℕ, ◌+◌, Bool, false, List, [], ◌∷◌, ◌++◌, length}
-use Rattle.winnow.specs.State.{ReaderState}
-use Rattle.winnow.specs.Reading.{MayFollow}
+use Rattle.winnow_reader.specs.State.{ReaderState}
+use Rattle.winnow_reader.specs.Reading.{MayFollow}
 use Rattle.format_json.specs.Language.{after_blanks}
 use Rattle.format_json.specs.Tokens.{TokenAhead}
 use Rattle.format_json.specs.TokenAnswers.{IsWrongAt}

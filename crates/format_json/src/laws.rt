@@ -1,9 +1,9 @@
 //! The laws of values and tokens: the round trip, places, and tokens that come in pieces.
 
 ghost use Rattle.std.specs.Prelude.{◌≡◌, ◌≢◌, ℕ, suc, Bool, List, true, ◌++◌};
-ghost use Rattle.winnow.specs.State.{ReaderState};
-ghost use Rattle.winnow.specs.Reading.{HasRead};
-ghost use Rattle.winnow.specs.Answering.{FailsAt};
+ghost use Rattle.winnow_reader.specs.State.{ReaderState};
+ghost use Rattle.winnow_reader.specs.Reading.{HasRead};
+ghost use Rattle.winnow_reader.specs.Answering.{FailsAt};
 ghost use Rattle.winnow_parser.specs.Determined.{IsDetermined, Shows};
 ghost use Rattle.format_json.specs.Language.{ValueAhead};
 ghost use Rattle.format_json.specs.Damage.{BreaksOff};
@@ -21,7 +21,7 @@ ghost use Rattle.format_json.specs.Causes.{cause_of};
 ghost use Rattle.format_json.specs.declared.tokens.Token.{Token};
 
 use crate::JsonToken;
-use winnow::reader::Record;
+use winnow_reader::Record;
 
 /// The law of the round trip: what [`write_value`](crate::write_value) wrote for a value,
 /// [`read_document`](crate::read_document) reads as the same value, and it finds no damage there.

@@ -1,9 +1,9 @@
 //! Reading a value from a stream, a whole text as one value, and tokens that come in pieces.
 
 ghost use Rattle.std.specs.Prelude.{IfOk, IfErr};
-ghost use Rattle.winnow.specs.Outcome.{Moves};
-ghost use Rattle.winnow.specs.Answer.{ahead};
-ghost use Rattle.winnow.specs.Errors.{AnyError};
+ghost use Rattle.winnow_parser.specs.Outcome.{Moves};
+ghost use Rattle.winnow_parser.specs.Answer.{ahead};
+ghost use Rattle.winnow_parser.specs.Errors.{AnyError};
 ghost use Rattle.winnow_stream.specs.SliceBytes.{SlicesHaveBytes};
 ghost use Rattle.format_lemmas.specs.Bytes.{bytes_of};
 ghost use Rattle.format_json_scalars.specs.Needing.{NeedsOneByte};
@@ -17,10 +17,10 @@ use crate::grammar::value_at;
 use crate::tokens::token_at;
 use crate::{Token, Value};
 use std::alloc::{AllocError, Global};
-use winnow::error::{EmptyError, ParserError};
-use winnow::reader::{Record, RecordInput};
-use winnow::stream::{AsBytes, Needed, Stream, StreamIsPartial};
-use winnow::{Failure, ModalResult, WholeResult};
+use winnow_error::{EmptyError, ParserError};
+use winnow_parser::{Failure, ModalResult, WholeResult};
+use winnow_reader::{Record, RecordInput};
+use winnow_stream::{AsBytes, Needed, Stream, StreamIsPartial};
 
 // What some bytes are as a value.
 #[derive(Debug, Drop)]

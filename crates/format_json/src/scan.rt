@@ -1,14 +1,14 @@
 //! The scan of a token.
 
 ghost use Rattle.std.specs.Prelude.{◌≡◌, ◌∷◌, [], ◌++◌, List, ℕ, false};
-ghost use Rattle.winnow.specs.Scanning.{GoesOn};
+ghost use Rattle.winnow_scan.specs.Scanning.{GoesOn};
 ghost use Rattle.format_json.specs.TokenAnswers.{OneToken};
 ghost use Rattle.format_json.specs.Scan.{IsScanned};
 
 use crate::JsonToken;
 use crate::found::is_blank;
 use format_json_scalars::{Tail, is_number_byte};
-use winnow::scan::Scan;
+use winnow_scan::Scan;
 
 /// Where the scan of a token is, and the bytes of a character of a string that are not all there.
 #[derive(Debug, Drop)]

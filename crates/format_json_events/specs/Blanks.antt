@@ -1,8 +1,8 @@
 -- Blanks before a token, which a reader of tokens drops where it needs more.
 use Rattle.std.specs.Prelude.{◌≡◌, ℕ, ◌+◌, ◌≤◌, ◌<◌, List, [], ◌∷◌, ◌++◌, length, take, drop, ◌⊎◌}
-use Rattle.winnow.specs.State.{ReaderState, waiting_for}
-use Rattle.winnow.specs.Reading.{HasRead, AwaitsAsked}
-use Rattle.winnow.specs.Skips.{skipped}
+use Rattle.winnow_reader.specs.State.{ReaderState, waiting_for}
+use Rattle.winnow_reader.specs.Reading.{HasRead, AwaitsAsked}
+use Rattle.winnow_reader.specs.Skips.{skipped}
 use Rattle.format_lemmas.specs.Bytes.{Each}
 use Rattle.format_json.specs.Language.{is_blank, after_blanks}
 use Rattle.format_json.specs.TokenAnswers.{OneToken}

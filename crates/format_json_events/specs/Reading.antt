@@ -1,8 +1,8 @@
 -- The events that a reader has given of the joined input.
 use Rattle.std.specs.Prelude.{◌≡◌, ℕ, ◌+◌, ◌-◌, ◌<◌, true, false, not, List, [], ◌∷◌, ◌++◌, length, drop, get_or, Option, Some, None, Result, Ok, Err, ◌⊎◌, ⊤}
-use Rattle.winnow.specs.State.{ReaderState, at_start, pushed, unspent, ended_after, fed_of}
-use Rattle.winnow.specs.Reading.{Lacks}
-use Rattle.winnow.specs.SameValues.{IsThrough}
+use Rattle.winnow_reader.specs.State.{ReaderState, at_start, pushed, unspent, ended_after, fed_of}
+use Rattle.winnow_reader.specs.Reading.{Lacks}
+use Rattle.winnow_reader.specs.SameValues.{IsThrough}
 use Rattle.winnow_reader.specs.declared.next.Next.{Next}
 use Rattle.winnow_reader.specs.declared.next.Next.TheVariants as next
 use Rattle.format_json.specs.Language.{after_blanks}

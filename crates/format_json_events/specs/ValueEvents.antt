@@ -4,7 +4,7 @@ use Rattle.std.specs.List.{flat_map}
 use Rattle.std.specs.String.{string_bytes}
 use Rattle.std.specs.declared.string.String.{String}
 use Rattle.std.specs.declared.alloc.Global.{Global}
-use Rattle.winnow.specs.Reading.{MayFollow}
+use Rattle.winnow_reader.specs.Reading.{MayFollow}
 use Rattle.format_json.specs.Documents.{IsDocument}
 use Rattle.format_json.specs.SameValues.{SameAll}
 use Rattle.format_json_events.specs.Reading.{EventState, HasGiven}

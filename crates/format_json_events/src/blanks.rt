@@ -5,7 +5,7 @@ ghost use Rattle.format_json_events.specs.Blanks.{DropsBlanks};
 ghost use Rattle.format_json_events.specs.Reading.{token_place};
 
 use format_json::{JsonToken, blank_count};
-use winnow::scan::ScanReader;
+use winnow_scan::ScanReader;
 
 /// Drops the blanks ahead. Where there are none the scan of the token goes on.
 pub(crate) fn drop_blanks(tokens: &mut ScanReader<JsonToken>)

@@ -12,8 +12,8 @@ use format_json::{Cause, JsonToken, Number, Token, blank_count, cause_of, is_cut
 use format_json_scalars::byte_or;
 use std::alloc::{AllocError, Global};
 use std::marker::Model;
-use winnow::reader::{Next, ReadError};
-use winnow::scan::ScanReader;
+use winnow_reader::{Next, ReadError};
+use winnow_scan::ScanReader;
 
 /// What a text has next.
 #[derive(Debug, Drop)]
@@ -136,7 +136,7 @@ impl Model for EventReader {
 impl EventReader {
     ghost use Rattle.std.specs.Prelude.{◌≡◌, ◌+◌, ◌<◌, ◌^◌, Some, None, [], false, length};
     ghost use Rattle.std.specs.Prelude.{OnOk, OnErr, Err};
-    ghost use Rattle.winnow.specs.State.{fed_of};
+    ghost use Rattle.winnow_reader.specs.State.{fed_of};
     ghost use Rattle.format_json_events.specs.Reading.{new_reader, events_pushed};
     ghost use Rattle.format_json_events.specs.Reading.{events_unspent};
     ghost use Rattle.format_json_events.specs.Reading.{events_ended, HasGiven, GivesAlso};
@@ -243,7 +243,7 @@ impl EventReader {
 
 impl EventReader {
     ghost use Rattle.std.specs.Prelude.{◌≡◌, length};
-    ghost use Rattle.winnow.specs.State.{fed_of, bytes_kept};
+    ghost use Rattle.winnow_reader.specs.State.{fed_of, bytes_kept};
 
     /// Returns the length of the joined input so far.
     pub fn fed(&self) -> usize

@@ -1,7 +1,7 @@
 //! The laws of events: those of the value of the text, and where a text stops.
 
 ghost use Rattle.std.specs.Prelude.{◌≡◌, ℕ, false, List, ◌++◌, None, Ok, Err};
-ghost use Rattle.winnow.specs.Reading.{Lacks, MayFollow};
+ghost use Rattle.winnow_reader.specs.Reading.{Lacks, MayFollow};
 ghost use Rattle.format_json.specs.Documents.{IsDocument, IsDamage};
 ghost use Rattle.format_json_events.specs.Reading.{EventState, HasGiven, GivesOn, KeepsLimits};
 ghost use Rattle.format_json_events.specs.Reading.{IsWhole, IsNext};

@@ -2,8 +2,8 @@
 
 ghost use Rattle.std.specs.Prelude.{◌≡◌, ◌≤◌, length, take, drop, IfOk};
 ghost use Rattle.std.specs.Int.{w64};
-ghost use Rattle.winnow.specs.Outcome.{Moves};
-ghost use Rattle.winnow.specs.Answer.{ahead, outcome};
+ghost use Rattle.winnow_parser.specs.Outcome.{Moves};
+ghost use Rattle.winnow_parser.specs.Answer.{ahead, outcome};
 ghost use Rattle.winnow_stream.specs.SliceBytes.{SlicesHaveBytes};
 ghost use Rattle.winnow_count.specs.Reading.{IsSomeExactly, ReadsSigned};
 ghost use Rattle.format_lemmas.specs.Bytes.{bytes_of, Each, Starts};
@@ -15,10 +15,12 @@ ghost use Rattle.format_json_scalars.specs.NumberAnswers.{GivesEachNumber};
 
 use crate::parts::is_number;
 use std::alloc::{AllocError, Global};
-use winnow::error::ParserError;
-use winnow::stream::{AsBytes, AsChar, ParseSlice, Stream, StreamIsPartial};
-use winnow::token::take_while;
-use winnow::{Failure, ModalResult, Parser};
+use winnow_count::ParseSlice;
+use winnow_error::ParserError;
+use winnow_parser::{Failure, ModalResult, Parser};
+use winnow_sets::AsChar;
+use winnow_stream::{AsBytes, Stream, StreamIsPartial};
+use winnow_token::take_while;
 
 /// A number.
 #[derive(Debug, Drop)]

@@ -2,8 +2,8 @@
 
 ghost use Rattle.std.specs.Prelude.{◌≡◌, ◌<◌, length, IfOk};
 ghost use Rattle.std.specs.String.{string_bytes};
-ghost use Rattle.winnow.specs.Outcome.{Moves};
-ghost use Rattle.winnow.specs.Answer.{ahead};
+ghost use Rattle.winnow_parser.specs.Outcome.{Moves};
+ghost use Rattle.winnow_parser.specs.Answer.{ahead};
 ghost use Rattle.winnow_stream.specs.SliceBytes.{SlicesHaveBytes};
 ghost use Rattle.format_lemmas.specs.Bytes.{bytes_of};
 ghost use Rattle.format_json_scalars.specs.Needing.{NeedsOneByte};
@@ -17,9 +17,9 @@ ghost use Rattle.format_json_scalars.specs.Tails.{IsCharAt};
 use crate::characters::{Step, append_plain, ascii_front, is_cut_text, plain_at};
 use crate::escapes::{Escape, escape_at};
 use std::alloc::{AllocError, Global};
-use winnow::error::ParserError;
-use winnow::stream::{AsBytes, Needed, Stream, StreamIsPartial};
-use winnow::{Failure, ModalResult};
+use winnow_error::ParserError;
+use winnow_parser::{Failure, ModalResult};
+use winnow_stream::{AsBytes, Needed, Stream, StreamIsPartial};
 
 /// What some bytes are as a string.
 #[derive(Debug, Drop)]

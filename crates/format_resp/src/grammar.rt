@@ -1,9 +1,9 @@
 //! The parser of a reply, nested to a depth.
 
 ghost use Rattle.std.specs.Prelude.{◌≡◌, ◌≢◌, ◌-◌, ◌<◌, true};
-ghost use Rattle.winnow.specs.Outcome.{Moves};
-ghost use Rattle.winnow.specs.Answer.{ahead, outcome};
-ghost use Rattle.winnow.specs.Errors.{AnyError};
+ghost use Rattle.winnow_parser.specs.Outcome.{Moves};
+ghost use Rattle.winnow_parser.specs.Answer.{ahead, outcome};
+ghost use Rattle.winnow_parser.specs.Errors.{AnyError};
 ghost use Rattle.winnow_combinator.specs.Ending.{IsFail, IsParser-IsFail};
 ghost use Rattle.format_resp.specs.Meanings.{BulkString, ArrayReply, Scalar, Layer, Nested};
 ghost use Rattle.format_resp.specs.Meanings.{is_kind, IsParser-Nested};
@@ -11,11 +11,13 @@ ghost use Rattle.format_resp.specs.Meanings.{is_kind, IsParser-Nested};
 use crate::Reply;
 use crate::lines::{read_bytes, read_integer, read_length, read_text};
 use std::alloc::Global;
-use winnow::combinator::{cut_err, repeat};
-use winnow::error::ParserError;
-use winnow::stream::{AsBytes, AsChar, Stream, StreamIsPartial};
-use winnow::token::one_of;
-use winnow::{Failure, ModalResult, Parser, Rule, by_rule};
+use winnow_combinator::{cut_err, repeat};
+use winnow_error::ParserError;
+use winnow_grammar::{Rule, by_rule};
+use winnow_parser::{Failure, ModalResult, Parser};
+use winnow_sets::AsChar;
+use winnow_stream::{AsBytes, Stream, StreamIsPartial};
+use winnow_token::one_of;
 
 // Reads a bulk string of at most `longest` bytes, after the byte of its kind.
 fn read_bulk<I: StreamIsPartial, E: ParserError<I>>(

@@ -1,8 +1,8 @@
 //! The parsers of the lines of a reply: texts, integers and lengths.
 
 ghost use Rattle.std.specs.Prelude.{◌≡◌, ◌<◌, ◌^◌, Some};
-ghost use Rattle.winnow.specs.Outcome.{Moves};
-ghost use Rattle.winnow.specs.Answer.{ahead, outcome};
+ghost use Rattle.winnow_parser.specs.Outcome.{Moves};
+ghost use Rattle.winnow_parser.specs.Answer.{ahead, outcome};
 ghost use Rattle.winnow_count.specs.CountRange.{HasCounts};
 ghost use Rattle.winnow_count.specs.Reading.{IsSomeExactly};
 ghost use Rattle.format_resp.specs.Language.{IsInteger, IsLength};
@@ -10,11 +10,12 @@ ghost use Rattle.format_resp.specs.Meanings.{Text, Number, Length, Bytes, IsLine
 
 use crate::numbers::{integer_in, length_in};
 use std::alloc::Global;
-use winnow::combinator::{Terminated, cut_err, terminated};
-use winnow::error::ParserError;
-use winnow::stream::{AsBytes, AsChar, StreamIsPartial};
-use winnow::token::{OneOf, TakeTill, one_of, take, take_till};
-use winnow::{Failure, ModalResult, Parser};
+use winnow_combinator::{Terminated, cut_err, terminated};
+use winnow_error::ParserError;
+use winnow_parser::{Failure, ModalResult, Parser};
+use winnow_sets::AsChar;
+use winnow_stream::{AsBytes, StreamIsPartial};
+use winnow_token::{OneOf, TakeTill, one_of, take, take_till};
 
 // No number of 64 bits has more digits, with its sign.
 const MOST_DIGITS: usize = 21;

@@ -1,19 +1,20 @@
 //! Reading a reply from a stream, and replies from bytes that come in pieces.
 
-ghost use Rattle.winnow.specs.Outcome.{Moves};
-ghost use Rattle.winnow.specs.Answer.{ahead};
+ghost use Rattle.winnow_parser.specs.Outcome.{Moves};
+ghost use Rattle.winnow_parser.specs.Answer.{ahead};
 ghost use Rattle.winnow_stream.specs.SliceBytes.{SlicesHaveBytes};
 ghost use Rattle.format_resp.specs.Answers.{IsAnswer, GivesEach};
-ghost use Rattle.winnow.specs.Errors.{AnyError};
-ghost use Rattle.winnow.specs.Place.{IsByteSlice, SlicesStay-bytes};
+ghost use Rattle.winnow_parser.specs.Errors.{AnyError};
+ghost use Rattle.winnow_reader.specs.Place.{IsByteSlice, SlicesStay-bytes};
 ghost use Rattle.format_resp.specs.Meanings.{IsParser-Nested};
 
 use crate::{Reply, ReplyTo};
 use std::alloc::Global;
-use winnow::error::{EmptyError, ParserError};
-use winnow::reader::{Record, RecordInput};
-use winnow::stream::{AsBytes, AsChar, Stream, StreamIsPartial};
-use winnow::{ModalResult, Parser};
+use winnow_error::{EmptyError, ParserError};
+use winnow_parser::{ModalResult, Parser};
+use winnow_reader::{Record, RecordInput};
+use winnow_sets::AsChar;
+use winnow_stream::{AsBytes, Stream, StreamIsPartial};
 
 /// Reads a reply within these limits from a stream of bytes.
 ///

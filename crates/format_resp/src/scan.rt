@@ -10,7 +10,7 @@ use crate::ReplyTo;
 use crate::digits::Digits;
 use crate::numbers::{integer_in, length_in};
 use crate::wanted::Wanted;
-use winnow::scan::Scan;
+use winnow_scan::Scan;
 
 /// Where the scan of a reply is: which arrays are open, and in which part of which reply it is.
 #[derive(Debug, Drop)]

@@ -4,12 +4,12 @@ use Rattle.std.specs.Prelude.{◌≡◌, ℕ, ◌+◌, ◌-◌, ◌≤◌, ◌<�
 use Rattle.std.specs.Borrow.{Bor}
 use Rattle.winnow_stream.specs.Source.{units}
 use Rattle.winnow_parser.specs.Outcome.{Meaning}
-use Rattle.winnow.specs.Place.{IsByteSlice}
-use Rattle.winnow.specs.State.{ReaderState, waiting_for, fed_of}
-use Rattle.winnow.specs.Reading.{MayFollow}
-use Rattle.winnow.specs.Answering.{NeedsLength}
-use Rattle.winnow.specs.SameValues.{IsThrough}
-use Rattle.winnow.specs.Waiting.{ScansOn}
+use Rattle.winnow_reader.specs.Place.{IsByteSlice}
+use Rattle.winnow_reader.specs.State.{ReaderState, waiting_for, fed_of}
+use Rattle.winnow_reader.specs.Reading.{MayFollow}
+use Rattle.winnow_reader.specs.Answering.{NeedsLength}
+use Rattle.winnow_reader.specs.SameValues.{IsThrough}
+use Rattle.winnow_scan.specs.Waiting.{ScansOn}
 use Rattle.format_resp.specs.Language.{line, IsLength, greatest_count, Spells}
 use Rattle.format_resp.specs.Meanings.{Nested}
 use Rattle.format_resp.specs.Scan.{IsScanned}

@@ -1,7 +1,7 @@
 -- What a reader of events has given of the joined input.
 use Rattle.std.specs.Prelude.{◌≡◌, ℕ, ◌+◌, ◌-◌, ◌<◌, List, [], ◌∷◌, ◌++◌, length, Some, Result, Ok, Err, ◌⊎◌}
-use Rattle.winnow.specs.State.{ReaderState, at_start, pushed, unspent, ended_after, waiting_for}
-use Rattle.winnow.specs.SameValues.{IsThrough}
+use Rattle.winnow_reader.specs.State.{ReaderState, at_start, pushed, unspent, ended_after, waiting_for}
+use Rattle.winnow_reader.specs.SameValues.{IsThrough}
 use Rattle.winnow_reader.specs.declared.next.Next.{Next}
 use Rattle.winnow_reader.specs.declared.next.Next.TheVariants as next
 use Rattle.format_resp.specs.Language.{line, IsLength, greatest_count}

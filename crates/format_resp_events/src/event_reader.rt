@@ -13,8 +13,8 @@ use crate::open_arrays::OpenArrays;
 use format_resp::{Cause, Reply, ReplyTo};
 use std::alloc::{AllocError, Global};
 use std::marker::Model;
-use winnow::reader::Next;
-use winnow::scan::ScanReader;
+use winnow_reader::Next;
+use winnow_scan::ScanReader;
 
 /// Why a reader has no event.
 #[derive(Clone, Copy, Debug, Drop, PartialEq, Eq)]
@@ -96,7 +96,7 @@ fn end_answer(open: &OpenArrays, fed: usize) -> Result<Next<ReplyEvent>, EventEr
 
 impl EventReader {
     ghost use Rattle.std.specs.Prelude.{◌≡◌, ◌+◌, ◌<◌, ◌^◌, [], false, length, OnOk, OnErr};
-    ghost use Rattle.winnow.specs.State.{fed_of};
+    ghost use Rattle.winnow_reader.specs.State.{fed_of};
     ghost use Rattle.format_resp_events.specs.Reading.{new_reader, events_pushed};
     ghost use Rattle.format_resp_events.specs.Reading.{events_unspent, events_ended};
     ghost use Rattle.format_resp_events.specs.Reading.{HasGiven, GivesAlso, GivesOn, KeepsLimits};
@@ -171,7 +171,7 @@ impl EventReader {
 
 impl EventReader {
     ghost use Rattle.std.specs.Prelude.{◌≡◌, length};
-    ghost use Rattle.winnow.specs.State.{fed_of, bytes_kept};
+    ghost use Rattle.winnow_reader.specs.State.{fed_of, bytes_kept};
 
     /// Returns the length of the joined input so far.
     pub fn fed(&self) -> usize

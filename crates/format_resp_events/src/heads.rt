@@ -2,15 +2,15 @@
 //! an array begins.
 
 ghost use Rattle.std.specs.Prelude.{◌≡◌, ◌<◌, ◌≤◌, ◌^◌, ℕ, length, decimal};
-ghost use Rattle.winnow.specs.Answering.{FailsAt};
+ghost use Rattle.winnow_reader.specs.Answering.{FailsAt};
 ghost use Rattle.format_resp.specs.Language.{is_in_line};
 ghost use Rattle.format_resp.specs.Parts.{text_width};
 ghost use Rattle.format_resp_events.specs.Heads.{BeginsArray, IsArrayHead, IsHead, BreaksWithin};
 
 use crate::EventError;
 use format_resp::{Cause, Reply, ReplyTo, cause_of};
-use winnow::reader::{Next, ReadError, Record};
-use winnow::scan::ScanReader;
+use winnow_reader::{Next, ReadError, Record};
+use winnow_scan::ScanReader;
 
 /// What comes next of an input where a reply is due.
 #[derive(Debug, Drop)]

@@ -2,7 +2,7 @@
 
 ghost use Rattle.std.specs.Prelude.{◌≡◌, ℕ, List, ◌++◌};
 ghost use Rattle.std.specs.List.{flat_map};
-ghost use Rattle.winnow.specs.SameValues.{AreAlike, IsFrontOf};
+ghost use Rattle.winnow_reader.specs.SameValues.{AreAlike, IsFrontOf};
 ghost use Rattle.format_resp.specs.Language.{SpellAll, Spells};
 ghost use Rattle.format_resp_events.specs.Events.{AreReplies, SameEvent, events_of};
 ghost use Rattle.format_resp_events.specs.Written.{events_written};

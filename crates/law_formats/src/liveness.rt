@@ -9,8 +9,8 @@ ghost use Rattle.winnow_liveness.specs.Live.{IsLive};
 use format_csv::Row;
 use format_json::JsonToken;
 use format_resp::ReplyTo;
-use winnow::liveness::live_reading_law;
-use winnow::reader::Record;
+use winnow_liveness::live_reading_law;
+use winnow_reader::Record;
 
 /// The parser of a record of comma-separated values asks for no more than it needs. It does
 /// nothing when called: its contract is the law.

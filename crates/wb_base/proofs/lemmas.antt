@@ -1,2 +1,4 @@
 pub mod KnownLemmas
 pub mod ExcerptLemmas
+pub mod ExchangeLemmas
+pub mod RecentLemmas

@@ -5,11 +5,12 @@ ghost use Rattle.wb_base.specs.Positions.{line_feeds};
 ghost use Rattle.wb_base.specs.Excerpts.{IsExcerpt};
 
 use crate::position::is_inside;
+use crate::terminal::{Colours, Painted, Style};
 use std::alloc::{AllocError, Global};
 use std::{fmt, str};
 
-// As many bytes of a line are shown on each side of the place.
-const WIDTH: usize = 120;
+/// As many bytes of a line are shown on each side of the place.
+pub const WIDTH: usize = 120;
 
 /// The line of a place in an input, as far as it is shown: what stands before the place, and what
 /// stands from there on.
@@ -140,12 +141,28 @@ fn write_blanks<W: fmt::Write>(bytes: &[u8], f: &mut fmt::Formatter<W>) -> fmt::
     Ok(())
 }
 
-impl fmt::Display for Excerpt {
-    fn fmt<W: fmt::Write>(&self, f: &mut fmt::Formatter<W>) -> fmt::Result {
+impl Excerpt {
+    // Writes the text, with the caret in its style where styles are shown.
+    pub(crate) fn write_painted<W: fmt::Write>(
+        &self,
+        colours: Colours,
+        f: &mut fmt::Formatter<W>,
+    ) -> fmt::Result {
         write_shown(from_character(&self.before), f)?;
         write_shown(to_character(&self.after), f)?;
         f.write_str("\n")?;
         write_blanks(&self.before, f)?;
-        f.write_str("^")
+        let caret = Painted {
+            colours,
+            style: Style::Caret,
+            what: "^",
+        };
+        write!(f, "{caret}")
+    }
+}
+
+impl fmt::Display for Excerpt {
+    fn fmt<W: fmt::Write>(&self, f: &mut fmt::Formatter<W>) -> fmt::Result {
+        self.write_painted(Colours::None, f)
     }
 }

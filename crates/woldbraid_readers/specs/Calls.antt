@@ -1,6 +1,6 @@
 -- What the calls of a JSON reader make of it.
 use Rattle.std.specs.Prelude.{◌≡◌, ℕ, ◌+◌, ◌≤◌, ◌<◌, ◌^◌, true, false, List, [], length, Some, None, Result, Err}
-use Rattle.winnow.specs.State.{fed_of}
+use Rattle.winnow_reader.specs.State.{fed_of}
 use Rattle.winnow_reader.specs.declared.next.Next.{Next}
 use Rattle.format_json_events.specs.Reading.{events_pushed, events_unspent, next_events, GivesAlso, GivesOn, KeepsLimits, IsNext}
 use Rattle.format_json_events.specs.declared.event_reader.Event.{Event}

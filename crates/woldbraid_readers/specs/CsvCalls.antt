@@ -1,7 +1,7 @@
 -- What the calls of a reader of comma-separated values make of it.
 use Rattle.std.specs.Prelude.{◌≡◌, ℕ, ◌+◌, ◌≤◌, ◌<◌, ◌^◌, true, false, List, length, Result, Ok, Err}
 use Rattle.csv.specs.Records.{fields_of}
-use Rattle.winnow.specs.State.{pushed, unspent, fed_of}
+use Rattle.winnow_reader.specs.State.{pushed, unspent, fed_of}
 use Rattle.winnow_reader.specs.declared.next.Next.{Next}
 use Rattle.winnow_reader.specs.declared.next.Next.TheVariants as next
 use Rattle.format_csv.specs.RowReader.{ReadsAlso, ReadsOn, ReadsNext}

@@ -1,9 +1,9 @@
 -- What a call makes of a reader of any format.
 use Rattle.std.specs.Prelude.{◌≡◌, ℕ, List, [], length}
-use Rattle.winnow.specs.State.{fed_of, bytes_kept}
+use Rattle.winnow_reader.specs.State.{fed_of, bytes_kept}
 use Rattle.format_json_events.specs.Reading.{events_ended, GivesOn}
 use Rattle.woldbraid_readers.specs.Calls.{Pushes, KeepsRest, GivesEvent}
-use Rattle.winnow.specs.State.{ended_after}
+use Rattle.winnow_reader.specs.State.{ended_after}
 use Rattle.format_csv.specs.RowReader.{ReadsThrough}
 use Rattle.woldbraid_readers.specs.CsvCalls.{PushesRecords, KeepsRecord, GivesRecord}
 use Rattle.format_resp_events.specs.Reading.{events_ended as replies_ended, GivesOn as GivesReplies}

@@ -1,6 +1,6 @@
 -- What the calls of a reader of replies make of it.
 use Rattle.std.specs.Prelude.{◌≡◌, ℕ, ◌+◌, ◌≤◌, ◌<◌, ◌^◌, true, false, List, [], length, Result}
-use Rattle.winnow.specs.State.{fed_of}
+use Rattle.winnow_reader.specs.State.{fed_of}
 use Rattle.winnow_reader.specs.declared.next.Next.{Next}
 use Rattle.format_resp_events.specs.Reading.{events_pushed, events_unspent, next_events, GivesAlso, GivesOn, KeepsLimits, IsNext}
 use Rattle.format_resp_events.specs.declared.event.ReplyEvent.{ReplyEvent}

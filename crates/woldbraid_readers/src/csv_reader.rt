@@ -2,7 +2,7 @@
 
 ghost use Rattle.std.specs.Prelude.{◌≡◌, [], false};
 ghost use Rattle.csv.specs.Records.{fields_of};
-ghost use Rattle.winnow.specs.State.{ended_after, fed_of, bytes_kept};
+ghost use Rattle.winnow_reader.specs.State.{ended_after, fed_of, bytes_kept};
 ghost use Rattle.format_csv.specs.RowReader.{HasRead, ReadsThrough};
 ghost use Rattle.woldbraid_readers.specs.CsvCalls.{PushesRecords, KeepsRecord, GivesRecord};
 ghost use Rattle.woldbraid_readers.specs.CsvCalls.{ReadsRecord, TellsAnswer, TellsFields};
@@ -12,7 +12,7 @@ use crate::csv_record::{CsvRecord, copy_fields};
 use crate::status::Status;
 use format_csv::{ByteRecord, RowError, RowReader};
 use std::alloc::Global;
-use winnow::reader::Next;
+use winnow_reader::Next;
 
 /// A reader of records of comma-separated values that come in pieces.
 ///

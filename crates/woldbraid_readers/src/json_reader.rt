@@ -1,7 +1,7 @@
 //! `JsonReader`: a reader of the events of a JSON text, which lends the text of each.
 
 ghost use Rattle.std.specs.Prelude.{◌≡◌, ◌+◌, ◌<◌, ◌^◌, [], false, length};
-ghost use Rattle.winnow.specs.State.{fed_of, bytes_kept};
+ghost use Rattle.winnow_reader.specs.State.{fed_of, bytes_kept};
 ghost use Rattle.format_json_events.specs.Reading.{new_reader, events_ended, events_unspent};
 ghost use Rattle.format_json_events.specs.Reading.{HasGiven, GivesOn};
 ghost use Rattle.woldbraid_readers.specs.Calls.{Pushes, GivesEvent, KeepsRest};
@@ -12,7 +12,7 @@ use crate::json_event::{JsonEvent, JsonKind, Parts, cause_number, parts_of, plai
 use crate::status::Status;
 use format_json_events::{Event, EventError, EventReader};
 use std::alloc::{AllocError, Global};
-use winnow::reader::Next;
+use winnow_reader::Next;
 
 /// A reader of the events of a JSON text that comes in pieces.
 ///

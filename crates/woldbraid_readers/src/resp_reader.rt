@@ -1,7 +1,7 @@
 //! `RespReader`: a reader of the events of replies, which lends the text of each.
 
 ghost use Rattle.std.specs.Prelude.{◌≡◌, ◌+◌, ◌<◌, ◌^◌, [], false, length};
-ghost use Rattle.winnow.specs.State.{fed_of, bytes_kept};
+ghost use Rattle.winnow_reader.specs.State.{fed_of, bytes_kept};
 ghost use Rattle.format_resp_events.specs.Reading.{new_reader, events_ended, events_unspent};
 ghost use Rattle.format_resp_events.specs.Reading.{HasGiven, GivesOn};
 ghost use Rattle.woldbraid_readers.specs.RespCalls.{PushesReplies, GivesReplyEvent, KeepsReply};
@@ -14,7 +14,7 @@ use crate::status::Status;
 use format_resp::{Cause, ReplyTo};
 use format_resp_events::{EventError, EventReader, ReplyEvent};
 use std::alloc::{AllocError, Global};
-use winnow::reader::Next;
+use winnow_reader::Next;
 
 /// A reader of the events of replies that come in pieces.
 ///

@@ -8,8 +8,8 @@ use Rattle.winnow_stream.specs.Units.{HasPositiveWidths-units}
 use Rattle.winnow_parser.specs.Outcome.{Ahead, Backtracks, Cuts, Needs, Refuses, Outcome, Gives, Fails}
 use Rattle.format_lemmas.specs.Bytes.{Each, bytes_of}
 use Rattle.format_lemmas.proofs.lemmas.ByteLemmas.{some, bytes-units}
-use Rattle.winnow.specs.Place.{bytes_at, IsByteSlice, SlicesStay-bytes}
-use Rattle.winnow.specs.Scanning.{IsOpen}
+use Rattle.winnow_reader.specs.Place.{bytes_at, IsByteSlice, SlicesStay-bytes}
+use Rattle.winnow_scan.specs.Scanning.{IsOpen}
 use Rattle.format_csv.specs.Fields.{is_plain, twice, doubled, SpellsField}
 use Rattle.format_csv.specs.Language.{SpellsMore, SpellsRecord, EndsRecord, RecordAhead}
 use Rattle.format_csv.specs.Answers.{values_of, IsBegun}

@@ -12,11 +12,11 @@ use Rattle.winnow_error.specs.declared.failure.Failure.{Failure}
 use Rattle.winnow_error.specs.declared.failure.Failure.TheVariants.{Backtrack, Cut}
 use Rattle.winnow_parser.specs.Outcome.{Ahead, Backtracks, Cuts, Gives, Fails, Moves}
 use Rattle.winnow_parser.specs.Laws.{IsParser}
-use Rattle.winnow.specs.Place.{bytes_at, IsByteSlice, SlicesStay-bytes}
-use Rattle.winnow.specs.State.{ReaderState}
-use Rattle.winnow.specs.Reading.{Reads, MayFollow, HasRead}
-use Rattle.winnow.specs.Answering.{StopsAt, FailsAt, IdlesAt}
-use Rattle.winnow.specs.SameValues.{IsThrough}
+use Rattle.winnow_reader.specs.Place.{bytes_at, IsByteSlice, SlicesStay-bytes}
+use Rattle.winnow_reader.specs.State.{ReaderState}
+use Rattle.winnow_reader.specs.Reading.{Reads, MayFollow, HasRead}
+use Rattle.winnow_reader.specs.Answering.{StopsAt, FailsAt, IdlesAt}
+use Rattle.winnow_reader.specs.SameValues.{IsThrough}
 use Rattle.format_lemmas.specs.Bytes.{bytes_of}
 use Rattle.format_lemmas.proofs.lemmas.TokenLemmas.{positive-moved}
 use Rattle.format_lemmas.proofs.lemmas.ByteLemmas.{bytes-units}

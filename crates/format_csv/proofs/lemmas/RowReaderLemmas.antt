@@ -3,8 +3,8 @@ use Rattle.std.specs.Prelude.{Bool, true, false, not, min, take, drop, Some, Res
 use Rattle.std.proofs.Common.{◌≡◌, ℕ, ◌+◌, ◌-◌, ◌≤◌, List, [], ◌∷◌, ◌++◌, length, refl, ap, sym, ◌∙◌, subst, arith, append_assoc, length-append, length-drop, take-append-drop}
 use Rattle.std.proofs.lemmas.List.{append-nil, take_all}
 use Rattle.std.proofs.lemmas.Option.{none-some}
-use Rattle.winnow.specs.Reading.{MayFollow}
-use Rattle.winnow.specs.State.{ReaderState, at_start, pushed, ended_after, taken_by}
+use Rattle.winnow_reader.specs.Reading.{MayFollow}
+use Rattle.winnow_reader.specs.State.{ReaderState, at_start, pushed, ended_after, taken_by}
 use Rattle.winnow_reader.specs.Skips.{skipped}
 use Rattle.winnow_reader.specs.declared.next.Next.{Next}
 use Rattle.winnow_reader.specs.declared.next.Next.TheVariants.{Value, NeedsMore, Done}

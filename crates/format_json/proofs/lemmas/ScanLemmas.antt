@@ -3,7 +3,7 @@ use Rattle.std.specs.Prelude.{Bool, true, false, not, if◌then◌else◌}
 use Rattle.std.proofs.Common.{◌≡◌, ℕ, List, [], ◌∷◌, ◌++◌, length, take, refl, ap, sym, ◌∙◌, subst, inl, arith}
 use Rattle.std.proofs.lemmas.List.{take_all}
 use Rattle.winnow_stream.specs.Shortage.{needed}
-use Rattle.winnow.specs.Scanning.{AwaitsMore}
+use Rattle.winnow_scan.specs.Scanning.{AwaitsMore}
 use Rattle.format_lemmas.specs.Bytes.{Each, StartsWith}
 use Rattle.format_lemmas.proofs.lemmas.ByteLemmas.{some, bytes-units}
 use Rattle.format_json_scalars.specs.Numbers.{is_number_byte}

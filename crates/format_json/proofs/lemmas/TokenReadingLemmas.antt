@@ -5,10 +5,10 @@ use Rattle.winnow_stream.specs.Source.{units}
 use Rattle.winnow_stream.specs.Units.{width-units}
 use Rattle.winnow_stream.proofs.lemmas.MovingLemmas.{MovesOn-end}
 use Rattle.winnow_parser.specs.Outcome.{Ahead, Moves}
-use Rattle.winnow.specs.Place.{bytes_at}
-use Rattle.winnow.specs.State.{ReaderState}
-use Rattle.winnow.specs.Reading.{Reads, MayFollow, HasRead}
-use Rattle.winnow.specs.Answering.{StopsAt, FailsAt}
+use Rattle.winnow_reader.specs.Place.{bytes_at}
+use Rattle.winnow_reader.specs.State.{ReaderState}
+use Rattle.winnow_reader.specs.Reading.{Reads, MayFollow, HasRead}
+use Rattle.winnow_reader.specs.Answering.{StopsAt, FailsAt}
 use Rattle.format_lemmas.specs.Bytes.{bytes_of}
 use Rattle.format_lemmas.proofs.lemmas.ByteLemmas.{bytes-units}
 use Rattle.format_json.specs.Language.{after_blanks}

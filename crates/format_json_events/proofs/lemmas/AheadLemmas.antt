@@ -1,8 +1,8 @@
 -- A damaged token in the unread bytes of a reader: its bytes before and after the place.
 use Rattle.std.proofs.Common.{◌≡◌, ℕ, ◌-◌, ◌<◌, ◌≤◌, Bool, true, false, if◌then◌else◌, List, [], ◌∷◌, ◌++◌, length, drop, inl, inr, ap, sym, ◌∙◌, subst, refl, arith, append_assoc, append-nil, length-append}
 use Rattle.std.proofs.Math.Seq.{drop-append_seam}
-use Rattle.winnow.specs.State.{ReaderState}
-use Rattle.winnow.specs.Reading.{MayFollow}
+use Rattle.winnow_reader.specs.State.{ReaderState}
+use Rattle.winnow_reader.specs.Reading.{MayFollow}
 use Rattle.format_lemmas.specs.Bytes.{StartsWith}
 use Rattle.format_json_scalars.specs.StringAnswers.{BeginsChar}
 use Rattle.format_json.specs.Language.{is_blank, after_blanks}

@@ -2,7 +2,7 @@
 use Rattle.std.proofs.Common.{◌≡◌, ℕ, ◌==◌, Bool, true, false, if◌then◌else◌, List, [], ◌∷◌, nat_lt, length, get_or, Option, None, Some, ap, ◌∙◌, subst, refl}
 use Rattle.std.specs.declared.string.String.{String}
 use Rattle.std.specs.declared.alloc.Global.{Global}
-use Rattle.winnow.specs.State.{ReaderState}
+use Rattle.winnow_reader.specs.State.{ReaderState}
 use Rattle.format_lemmas.specs.Bytes.{StartsWith}
 use Rattle.format_json.specs.Language.{after_blanks}
 use Rattle.format_json.specs.Reading.{FindsDamage}

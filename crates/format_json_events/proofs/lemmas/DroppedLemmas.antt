@@ -8,10 +8,10 @@ use Rattle.winnow_stream.specs.Source.{units, width}
 use Rattle.winnow_stream.specs.Units.{width-units}
 use Rattle.winnow_stream.proofs.lemmas.FrontLemmas.{width-append}
 use Rattle.winnow_parser.specs.Outcome.{Gives}
-use Rattle.winnow.specs.Place.{bytes_at}
-use Rattle.winnow.specs.State.{ReaderState, pushed, ended_after, unspent, taken_by, waiting_for}
-use Rattle.winnow.specs.Reading.{Reads, MayFollow, AwaitsAsked, HasRead}
-use Rattle.winnow.specs.Skips.{skipped}
+use Rattle.winnow_reader.specs.Place.{bytes_at}
+use Rattle.winnow_reader.specs.State.{ReaderState, pushed, ended_after, unspent, taken_by, waiting_for}
+use Rattle.winnow_reader.specs.Reading.{Reads, MayFollow, AwaitsAsked, HasRead}
+use Rattle.winnow_reader.specs.Skips.{skipped}
 use Rattle.winnow_reader.proofs.lemmas.ReadingLemmas.{HasRead-pushed, HasRead-ended, HasRead-value}
 use Rattle.winnow_reader.proofs.lemmas.SinceLemmas.{HasReadSince-pushed}
 use Rattle.format_lemmas.specs.Bytes.{Each, bytes_of}

@@ -1,8 +1,8 @@
 -- What a reader gives of a text that is a value are the value's events, and it finds no damage.
 use Rattle.std.proofs.Common.{◌≡◌, ℕ, true, false, List, [], ◌∷◌, ◌++◌, drop, Some, None, ◌⊎◌, inl, inr, ap, sym, ◌∙◌, subst, refl, append-nil}
 use Rattle.std.specs.Prelude.{Ok, Err}
-use Rattle.winnow.specs.State.{ReaderState}
-use Rattle.winnow.specs.Reading.{MayFollow, Lacks}
+use Rattle.winnow_reader.specs.State.{ReaderState}
+use Rattle.winnow_reader.specs.Reading.{MayFollow, Lacks}
 use Rattle.winnow_reader.specs.declared.next.Next.TheVariants.{NeedsMore}
 use Rattle.format_json.specs.Language.{after_blanks}
 use Rattle.format_json.specs.Documents.{IsDocument, IsDamage}

@@ -1,7 +1,7 @@
 -- What a step of the reader of events makes of what it has given.
 use Rattle.std.proofs.Common.{◌≡◌, List, [], ◌∷◌, ◌++◌, Option, Some, None, ◌⊎◌, inl, inr, ap, sym, ◌∙◌, subst, refl, append_assoc, append-nil}
 use Rattle.std.specs.Prelude.{Result, Ok, Err}
-use Rattle.winnow.specs.State.{ReaderState}
+use Rattle.winnow_reader.specs.State.{ReaderState}
 use Rattle.format_json_events.specs.Blanks.{HasTaken, TakesThrough}
 use Rattle.format_json_events.specs.Turns.{TextState, at_begin, turn_at, turn_events, after_turn, answer_of}
 use Rattle.format_json_events.specs.Reading.{IsAllowed, Takes, EventState, GivesOn, KeepsLimits, Brings, BringsEnd, IsComing, taken_events}

@@ -3,10 +3,10 @@ use Rattle.std.proofs.Common.{◌≡◌, ℕ, Bool, true, false, not, length, ap
 use Rattle.std.specs.Prelude.{Result, Ok, Err}
 use Rattle.winnow_stream.specs.Source.{units}
 use Rattle.winnow_parser.specs.Outcome.{Gives}
-use Rattle.winnow.specs.Place.{bytes_at}
-use Rattle.winnow.specs.State.{ReaderState}
-use Rattle.winnow.specs.Answering.{ReadsNext, FailsAt-by, IsDoneAtEnd}
-use Rattle.winnow.specs.Waiting.{WaitsByScan}
+use Rattle.winnow_reader.specs.Place.{bytes_at}
+use Rattle.winnow_reader.specs.State.{ReaderState}
+use Rattle.winnow_reader.specs.Answering.{ReadsNext, FailsAt-by, IsDoneAtEnd}
+use Rattle.winnow_scan.specs.Waiting.{WaitsByScan}
 use Rattle.winnow_reader.specs.declared.next.Next.{Next}
 use Rattle.winnow_reader.specs.declared.next.Next.TheVariants as next
 use Rattle.winnow_reader.specs.declared.next.ReadError.{ReadError}

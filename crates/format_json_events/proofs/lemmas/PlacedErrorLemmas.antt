@@ -3,8 +3,8 @@ use Rattle.std.proofs.Common.{◌≡◌, ◌≢◌, ℕ, ◌+◌, ◌<◌, Bool,
 use Rattle.std.specs.Prelude.{Err}
 use Rattle.std.specs.declared.string.String.{String}
 use Rattle.std.specs.declared.alloc.Global.{Global}
-use Rattle.winnow.specs.State.{ReaderState}
-use Rattle.winnow.specs.Reading.{MayFollow}
+use Rattle.winnow_reader.specs.State.{ReaderState}
+use Rattle.winnow_reader.specs.Reading.{MayFollow}
 use Rattle.format_lemmas.specs.Bytes.{StartsWith}
 use Rattle.format_lemmas.proofs.lemmas.ByteLemmas.{heads}
 use Rattle.format_json_scalars.specs.Numbers.{is_number_byte}

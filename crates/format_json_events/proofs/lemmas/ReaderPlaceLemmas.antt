@@ -8,9 +8,9 @@ use Rattle.winnow_stream.specs.Units.{width-units}
 use Rattle.winnow_stream.specs.Location.{location_behind}
 use Rattle.winnow_stream.proofs.lemmas.MovingLemmas.{MovesOn-end}
 use Rattle.winnow_parser.specs.Outcome.{Ahead}
-use Rattle.winnow.specs.Place.{bytes_at}
-use Rattle.winnow.specs.State.{fed_of}
-use Rattle.winnow.specs.Reading.{Reads, MayFollow}
+use Rattle.winnow_reader.specs.Place.{bytes_at}
+use Rattle.winnow_reader.specs.State.{fed_of}
+use Rattle.winnow_reader.specs.Reading.{Reads, MayFollow}
 use Rattle.format_lemmas.specs.Bytes.{bytes_of}
 use Rattle.format_lemmas.proofs.lemmas.ByteLemmas.{bytes-units}
 use Rattle.format_json.specs.Language.{is_blank, after_blanks}

@@ -2,8 +2,8 @@
 use Rattle.std.proofs.Common.{◌≡◌, ℕ, ◌<◌, ◌≤◌, Bool, true, false, if◌then◌else◌, List, [], ◌∷◌, ◌++◌, ◌⊎◌, length, inl, inr, refl, ap, sym, ◌∙◌, arith, append-nil, length-append}
 use Rattle.winnow_stream.specs.Source.{units}
 use Rattle.winnow_parser.specs.Outcome.{Gives}
-use Rattle.winnow.specs.Place.{bytes_at}
-use Rattle.winnow.specs.Reading.{MayFollow}
+use Rattle.winnow_reader.specs.Place.{bytes_at}
+use Rattle.winnow_reader.specs.Reading.{MayFollow}
 use Rattle.format_lemmas.specs.Bytes.{bytes_of}
 use Rattle.format_lemmas.proofs.lemmas.ByteLemmas.{bytes-units}
 use Rattle.format_json.specs.Language.{is_blank, after_blanks}

@@ -2,12 +2,12 @@
 use Rattle.std.proofs.Common.{◌≡◌, ℕ, ◌<◌, true, false, List, [], ◌∷◌, ◌++◌, length, append-nil, inl, inr, ap, refl, sym, ◌∙◌, subst, arith}
 use Rattle.std.proofs.lemmas.Bool.{cases_lt}
 use Rattle.winnow_stream.specs.Shortage.{needed}
-use Rattle.winnow.specs.Outcome.{Fails, Needs}
-use Rattle.winnow.specs.Place.{bytes_at}
-use Rattle.winnow.specs.State.{ReaderState, waiting_for}
-use Rattle.winnow.specs.Reading.{AwaitsAsked, Lacks}
-use Rattle.winnow.specs.Skips.{skipped}
-use Rattle.winnow.specs.Waiting.{WaitsByScan}
+use Rattle.winnow_parser.specs.Outcome.{Fails, Needs}
+use Rattle.winnow_reader.specs.Place.{bytes_at}
+use Rattle.winnow_reader.specs.State.{ReaderState, waiting_for}
+use Rattle.winnow_reader.specs.Reading.{AwaitsAsked, Lacks}
+use Rattle.winnow_reader.specs.Skips.{skipped}
+use Rattle.winnow_scan.specs.Waiting.{WaitsByScan}
 use Rattle.winnow_reader.specs.Wanted.{size_of}
 use Rattle.winnow_reader.proofs.lemmas.AskedLemmas.{asks-now}
 use Rattle.format_lemmas.proofs.lemmas.ByteLemmas.{bytes-units}

@@ -8,8 +8,8 @@ use Rattle.winnow_stream.specs.SliceBytes.{SlicesHaveBytes}
 use Rattle.winnow_parser.specs.Outcome.{Outcome, Gives, Fails, Backtracks, Cuts, Needs, Refuses, Meaning}
 use Rattle.winnow_parser.specs.Laws.{IsSettled}
 use Rattle.winnow_error.specs.declared.failure.Failure.TheVariants.{Backtrack, Cut}
-use Rattle.winnow.specs.Place.{bytes_at, IsByteSlice, SlicesStay-bytes}
-use Rattle.winnow.specs.Scanning.{AwaitsMore}
+use Rattle.winnow_reader.specs.Place.{bytes_at, IsByteSlice, SlicesStay-bytes}
+use Rattle.winnow_scan.specs.Scanning.{AwaitsMore}
 use Rattle.format_lemmas.proofs.lemmas.TokenLemmas.{itself}
 use Rattle.format_resp.specs.Meanings.{Nested}
 use Rattle.format_resp.specs.Damage.{cause_at}

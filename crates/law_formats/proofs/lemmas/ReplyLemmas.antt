@@ -8,7 +8,7 @@ use Rattle.winnow_stream.specs.Front.{front, back}
 use Rattle.winnow_stream.proofs.lemmas.UnitLemmas.{units-same}
 use Rattle.winnow_stream.specs.Longer.{SlicesStay}
 use Rattle.winnow_count.specs.Reading.{IsSomeExactly}
-use Rattle.winnow.specs.Place.{IsByteSlice}
+use Rattle.winnow_reader.specs.Place.{IsByteSlice}
 use Rattle.winnow_parser.specs.Outcome.{Ahead, Needs, Outcome, Fails, Meaning}
 use Rattle.winnow_parser.specs.Laws.{longer, IsStable, IsFinal, IsOnward}
 use Rattle.winnow_parser.specs.Determined.{IsDetermined, AreBothSame, AreSameIfAny, Respects, Shows, SlicesRespect}

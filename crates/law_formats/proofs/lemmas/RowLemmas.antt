@@ -2,7 +2,7 @@
 use Rattle.std.specs.Prelude.{◌≡◌, ℕ, ◌==◌, Bool, List, None, ⊤}
 use Rattle.std.specs.declared.vec.Vec.{Vec}
 use Rattle.std.specs.declared.alloc.Global.{Global}
-use Rattle.winnow.specs.Place.{IsByteSlice, SlicesStay-bytes}
+use Rattle.winnow_reader.specs.Place.{IsByteSlice, SlicesStay-bytes}
 use Rattle.winnow_parser.specs.Determined.{Respects}
 use Rattle.winnow_parser.specs.Meanings.{IsForgotten}
 use Rattle.winnow_liveness.specs.Live.{IsLive, IsPunctual}

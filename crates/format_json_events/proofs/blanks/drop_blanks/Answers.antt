@@ -1,5 +1,5 @@
 use Rattle.std.proofs.Common.{◌≡◌, ◌<◌, ◌≤◌, length, drop, inl, ap, ◌∙◌, subst, arith}
-use Rattle.winnow.specs.Skips.{skipped}
+use Rattle.winnow_reader.specs.Skips.{skipped}
 use Rattle.format_json.specs.Language.{after_blanks}
 use Rattle.format_json_events.proofs.lemmas.BlankLemmas.{before-after}
 use Rattle.format_json_events.proofs.blanks.drop_blanks.Goals as goal

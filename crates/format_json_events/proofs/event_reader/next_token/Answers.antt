@@ -1,7 +1,7 @@
 use Rattle.std.proofs.Common.{ap, sym, ◌∙◌, subst}
 use Rattle.std.specs.Prelude.{Ok, Err}
-use Rattle.winnow.specs.Answering.{ReadsNext}
-use Rattle.winnow.specs.Waiting.{WaitsByScan}
+use Rattle.winnow_reader.specs.Answering.{ReadsNext}
+use Rattle.winnow_scan.specs.Waiting.{WaitsByScan}
 use Rattle.winnow_reader.specs.declared.next.Next.TheVariants as next
 use Rattle.format_json.specs.TokenAnswers.{OneToken}
 use Rattle.format_json.specs.Reading.{FindsDamage}

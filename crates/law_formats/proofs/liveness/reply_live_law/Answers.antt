@@ -1,5 +1,5 @@
 use Rattle.std.proofs.Common.{true}
-use Rattle.winnow.specs.Place.{IsByteSlice, SlicesStay-bytes}
+use Rattle.winnow_reader.specs.Place.{IsByteSlice, SlicesStay-bytes}
 use Rattle.law_formats.proofs.lemmas.ReplyLemmas.{reply-punctual, bytes-respect}
 use Rattle.law_formats.proofs.liveness.reply_live_law.Goals as goal
 

@@ -1,6 +1,6 @@
 use Rattle.std.proofs.Common.{ap, arith}
-use Rattle.winnow.specs.Determined.{Shows}
-use Rattle.winnow.specs.Wanted.{size_of}
+use Rattle.winnow_parser.specs.Determined.{Shows}
+use Rattle.winnow_reader.specs.Wanted.{size_of}
 use Rattle.winnow_liveness.proofs.lemmas.ReaderLemmas.{IsLive-ones}
 use Rattle.format_json.specs.TokenAnswers.{OneToken}
 use Rattle.format_json.proofs.lemmas.JsonTokenLemmas.{token-determined}

@@ -1,5 +1,5 @@
 use Rattle.std.proofs.Common.{ap, ◌∙◌}
-use Rattle.winnow.specs.State.{ended_after}
+use Rattle.winnow_reader.specs.State.{ended_after}
 use Rattle.format_csv.proofs.lemmas.RowReaderLemmas.{read-end}
 use Rattle.format_csv.proofs.row_reader.RowReader.end.Goals as goal
 

@@ -1,5 +1,5 @@
 use Rattle.std.proofs.Common.{ap, ◌∙◌}
-use Rattle.winnow.specs.State.{pushed}
+use Rattle.winnow_reader.specs.State.{pushed}
 use Rattle.format_csv.proofs.lemmas.RowReaderLemmas.{read-piece}
 use Rattle.format_csv.proofs.row_reader.RowReader.push.Goals as goal
 

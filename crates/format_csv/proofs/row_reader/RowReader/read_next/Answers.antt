@@ -1,6 +1,6 @@
 use Rattle.std.proofs.Common.{◌≡◌, ◌+◌, refl, ap, ◌∙◌, subst}
 use Rattle.csv.specs.Records.{fields_of}
-use Rattle.winnow.specs.State.{ReaderState, taken_by}
+use Rattle.winnow_reader.specs.State.{ReaderState, taken_by}
 use Rattle.format_csv.specs.declared.grammar.Row.{Row}
 use Rattle.format_csv.specs.Filling.{Fills}
 use Rattle.format_csv.specs.declared.filling.Found.TheVariants.{Record, NeedsMore, Damaged}
