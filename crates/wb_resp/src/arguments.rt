@@ -22,10 +22,10 @@ const LIMITS: ReplyTo = ReplyTo {
 const ABOUT: &str = "Reads replies of the Redis protocol, and prints each one as redis-cli does";
 
 const EXAMPLES: &str = "Examples:
-  wb-resp replies                      prints the replies as redis-cli prints them to a terminal
-  wb-resp --check replies              only says whether the file is sound, and where it is not
-  wb-resp --command \"INFO server\" replies    prints what INFO answers as its text stands
-  wb-resp --depth 4 --limit 65536 -    reads standard input within narrower limits
+  wb-resp replies                            prints the replies as redis-cli does at a terminal
+  wb-resp --check replies                    only says whether the file is sound, and where not
+  wb-resp --command \"INFO server\" replies    prints the text that INFO answers as it stands
+  wb-resp --depth 4 --limit 65536 replies    reads the file within narrower limits
 
 The status is 0 for a sound file; 2 for one that is not, and for faulty arguments; 3 if memory was
 refused; 4 if reading or writing failed.";
