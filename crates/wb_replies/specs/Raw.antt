@@ -15,8 +15,8 @@ abbrev pub raw_entries : ℕ → List (List ℕ) → List ℕ
 raw_entries i [] = []
 raw_entries i (text ∷ texts) = separator i ++ text ++ raw_entries (i + 1) texts
 
--- the layer of a reply, from the texts of the replies in its array: an error ends its line, and what
--- is not there has no text
+-- the layer of a reply, from the texts of the replies in its array: an error ends its line, and
+-- what is not there has no text
 abbrev pub layer_raw : Reply-F (List ℕ) → List ℕ
 layer_raw (Simple text) = text.items
 layer_raw (Error text) = line_of [] text.items

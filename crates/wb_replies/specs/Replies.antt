@@ -12,8 +12,8 @@ use Rattle.wb_replies.specs.declared.positions.Position.{Position}
 use Rattle.wb_replies.specs.declared.failure.Failure.{Failure}
 use Rattle.wb_replies.specs.declared.failure.Failure.TheVariants.{NoReply, EndsInside, Stopped}
 
--- the input spells these replies within the limits, one after the other, and then the rest, and they
--- were printed after what the output had before
+-- the input is what spells these replies within the limits, one after the other, and then the rest;
+-- they were printed after what the output had before
 pub record PrintsFront (layout : Layout) (limits : ReplyTo) (whole before rest : List ℕ) (new : Option (List ℕ)) : Type 0 where
   pub replies : List Reply
   pub front : List ℕ

@@ -98,10 +98,9 @@ module _ (means : PlacedReply → Meaning Placed ℕ) where
   -- the failure is that of the parser, no matter what follows: it fails there for the cause, or
   -- takes nothing. And the bytes from the reader's place on lead there, where the excerpt is from
   abbrev pub FailsThere : ReaderState PlacedReply → Position → Failure → Type 0
-  FailsThere f place (NoReply p cause excerpt) = let width = p.byte - f.place in
-      (FailsFor f p.byte cause ⊎ IdlesAt means f p.byte)
-      × (p ≡ position_after place (take width f.ahead))
-      × IfSome excerpt (IsExcerpt (take width f.ahead) (drop width f.ahead))
+  FailsThere f place (NoReply p cause excerpt) = (FailsFor f p.byte cause ⊎ IdlesAt means f p.byte)
+      × (p ≡ position_after place (take (p.byte - f.place) f.ahead))
+      × IfSome excerpt (IsExcerpt (take (p.byte - f.place) f.ahead) (drop (p.byte - f.place) f.ahead))
   FailsThere f place (EndsInside p excerpt) = ⊥
   FailsThere f place (Stopped trouble) = ⊤
 
@@ -142,8 +141,8 @@ module _ (means : PlacedReply → Meaning Placed ℕ) where
       × IfSome excerpt (IsExcerpt [] f.ahead)
   EndsAs f place rest (Err (Stopped trouble)) = ⊤
 
-  -- the program read a front of this input with that parser and printed its replies, and ended as it
-  -- says
+  -- the program read a front of this input with that parser and printed its replies, and ended as
+  -- it says
   pub record Tells (layout : Layout) (parser : PlacedReply) (whole before : List ℕ) (new : Option (List ℕ))
       (result : Result (Unit {0}) Failure) : Type 0 where
     pub input : List ℕ

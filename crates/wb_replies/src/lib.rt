@@ -1,9 +1,9 @@
 //! Reads replies of the Redis protocol, in pieces of what each read gives, and prints each one.
 //!
 //! `placed` is the record that is read: a reply, and how far its bytes move a position. `positions`
-//! counts bytes, lines, columns and characters. `layout` says how a reply is printed: as `redis-cli`
-//! prints it to a terminal (`printing`), as its text stands (`raw`), or not at all. `session` is the
-//! loop over the pieces, and `failure` says why it stops.
+//! counts bytes, lines, columns and characters. `layout` says how a reply is printed: as
+//! `redis-cli` prints it to a terminal (`printing`), as its text stands (`raw`), or not at all.
+//! `session` is the loop over the pieces, and `failure` says why it stops.
 #![tactic(auto)]
 
 mod failure;

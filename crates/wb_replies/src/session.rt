@@ -36,8 +36,8 @@ use winnow_scan::ScanReader;
 /// as soon as its bytes are there.
 ///
 /// Where it fails, the replies before are printed, unless memory was refused, or reading or writing
-/// failed. Clause `told` says it of the reader and its parser, and `printed` of the bytes that spell
-/// the replies.
+/// failed. Clause `told` says it of the reader and its parser, and `printed` of the bytes that
+/// spell the replies.
 pub fn print_replies<R: Read, W: Write>(
     alloc: Global,
     limits: ReplyTo,
@@ -150,10 +150,10 @@ impl Printing {
     {
         let mut text = Vec::new(alloc);
         let taken = take_replies(self.layout, &mut self.reader, &mut self.place, &mut text);
-        if let Err(trouble) = write_out(&text, output) {
-            return Err(Failure::Stopped(trouble));
+        match write_out(&text, output) {
+            Ok(()) => taken,
+            Err(trouble) => Err(Failure::Stopped(trouble)),
         }
-        taken
     }
 }
 
@@ -333,11 +333,7 @@ fn cause_ahead(reader: &ScanReader<PlacedReply>, bytes: usize) -> Cause
 
 // Returns the line of the place after this many bytes of the joined input, as far as its bytes are
 // ahead.
-fn excerpt_ahead(
-    alloc: Global,
-    reader: &ScanReader<PlacedReply>,
-    bytes: usize,
-) -> Option<Excerpt>
+fn excerpt_ahead(alloc: Global, reader: &ScanReader<PlacedReply>, bytes: usize) -> Option<Excerpt>
     ensures { let width = bytes - reader.now.place in
         IfSome result (IsExcerpt (take width reader.now.ahead) (drop width reader.now.ahead)) }
 {

@@ -1,5 +1,5 @@
--- Of which commands redis-cli prints the replies as their text stands, as its function cliSendCommand
--- has them.
+-- Of which commands redis-cli prints the replies as their text stands, as its function
+-- cliSendCommand has them.
 use Rattle.std.specs.Prelude.{ℕ, ◌==◌, Bool, true, ◌&&◌, ◌||◌, if◌then◌else◌, List, codes}
 use Rattle.std.specs.Str.{str_eq_ignore_ascii_case}
 

@@ -44,7 +44,7 @@ impl<'a> Command<'a> {
 
     /// Returns whether `redis-cli` prints the replies of the command as their text stands.
     pub fn is_raw(self) -> bool
-        ensures { result ≡ is_raw self.name.now self.word.now self.count }
+        ensures { result ≡ is_raw self.entry.name.now self.entry.word.now self.entry.count }
     {
         is_raw(self.name, self.word, self.count)
     }
@@ -57,42 +57,43 @@ fn is_word(word: &str, wanted: &str) -> bool
     word.eq_ignore_ascii_case(wanted)
 }
 
-// Returns whether the replies of `DEBUG` are printed so, with this word after it.
+// Returns whether the replies of DEBUG with this word after it are printed as their text stands.
 fn is_raw_debug(word: &str) -> bool
     ensures { result ≡ is_raw_debug word.now }
 {
     is_word(word, "htstats") || is_word(word, "htstats-key") || is_word(word, "client-eviction")
 }
 
-// Returns whether the replies of `MEMORY` are printed so, with this word after it.
+// Returns whether the replies of MEMORY with this word after it are printed as their text stands.
 fn is_raw_memory(word: &str) -> bool
     ensures { result ≡ is_raw_memory word.now }
 {
     is_word(word, "malloc-stats") || is_word(word, "doctor")
 }
 
-// Returns whether the replies of `CLUSTER` are printed so, with this word after it.
+// Returns whether the replies of CLUSTER with this word after it are printed as their text stands.
 fn is_raw_cluster(word: &str, count: usize) -> bool
     ensures { result ≡ is_raw_cluster word.now count }
 {
     count == 2 && (is_word(word, "nodes") || is_word(word, "info"))
 }
 
-// Returns whether the replies of `CLIENT` are printed so, with this word after it.
+// Returns whether the replies of CLIENT with this word after it are printed as their text stands.
 fn is_raw_client(word: &str) -> bool
     ensures { result ≡ is_raw_client word.now }
 {
     is_word(word, "list") || is_word(word, "info")
 }
 
-// Returns whether the replies of `LATENCY` are printed so, with this word after it.
+// Returns whether the replies of LATENCY with this word after it are printed as their text stands.
 fn is_raw_latency(word: &str, count: usize) -> bool
     ensures { result ≡ is_raw_latency word.now count }
 {
     count == 3 && is_word(word, "graph") || count == 2 && is_word(word, "doctor")
 }
 
-// Returns whether the replies of a command with this name are printed so, with this word after it.
+// Returns whether the replies of a command with this name, this word after it and this number of
+// words are printed as their text stands.
 fn is_raw(name: &str, word: &str, count: usize) -> bool
     ensures { result ≡ is_raw name.now word.now count }
 {

@@ -51,17 +51,17 @@ told-at : (longest depth n : ℕ) (cause told : Cause) (ahead : List ℕ)
 told-at longest depth n cause told ahead h is =
     is longest depth (units ahead) (units (drop n ahead)) cause (bytes-units ahead ∙ sym (take-append-drop n ahead)) (bytes-units (drop n ahead)) h
 
--- the cause of the bytes on both sides of a place, which is within them
-pub cause-within : (told : Cause) (k width : ℕ) (bytes ahead : List ℕ)
+-- what holds of the bytes on both sides of a place that is within them holds of all that is ahead
+pub sides-within : (P : List ℕ → List ℕ → Type 0) (k width : ℕ) (bytes ahead : List ℕ)
     → bytes ≡ ahead → width ≡ min k (length bytes)
-    → IsCauseOf told (take width bytes) (take (length bytes - width) (drop width bytes))
-    → IsCauseOf told (take k ahead) (drop k ahead)
-cause-within told k width bytes ahead same within h =
+    → P (take width bytes) (take (length bytes - width) (drop width bytes))
+    → P (take k ahead) (drop k ahead)
+sides-within P k width bytes ahead same within h =
     let rest = take (length bytes - width) (drop width bytes) in
     let front : take width bytes ≡ take k ahead = ap (λ n. take n bytes) within ∙ take_min k bytes ∙ ap (take k) same in
     let all : rest ≡ drop width bytes = take_all (length bytes - width) (drop width bytes) (omega (arith, length-drop width bytes)) in
     let back : rest ≡ drop k ahead = all ∙ ap (λ n. drop n bytes) within ∙ drop_min k bytes ∙ ap (drop k) same in
-    subst (λ r. IsCauseOf told (take k ahead) r) back (subst (λ b. IsCauseOf told b rest) front h)
+    subst (P (take k ahead)) back (subst (λ b. P b rest) front h)
 
 module _ (counts_shortage : Bool) where
   -- the parser of replies, over the bytes that a reader has ahead

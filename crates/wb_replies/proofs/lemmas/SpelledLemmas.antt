@@ -97,8 +97,8 @@ module _ (counts_shortage : Bool) where
 
   module _ (layout : Layout) (parser : PlacedReply) (whole before : List ℕ)
       (new : Option (List ℕ)) where
-    -- what the program tells of an input, the rest of which is what the reader has ahead and what it
-    -- did not read
+    -- what the program tells of an input, the rest of which is what the reader has ahead and what
+    -- it did not read
     prints-front : (r : Result (Unit {0}) Failure) (rest : List ℕ)
         (t : Tells Replying layout parser whole before new r) → t.reader.ahead ++ t.rest ≡ rest
         → (prints : PrintsFront layout parser.limits whole before rest new)

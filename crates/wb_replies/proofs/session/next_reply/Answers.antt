@@ -1,4 +1,4 @@
-use Rattle.std.proofs.Common.{◌-◌, true, [], ◌∷◌, take, drop, refl, ap, sym, subst, inl, inr}
+use Rattle.std.proofs.Common.{◌≡◌, ◌-◌, true, [], ◌∷◌, take, drop, refl, ap, sym, subst, inl, inr}
 use Rattle.winnow_reader.specs.State.{ReaderState}
 use Rattle.winnow_reader.specs.Answering.{FailsAt-by}
 use Rattle.wb_replies.specs.declared.placed.PlacedReply.{PlacedReply}
@@ -17,7 +17,7 @@ joined_with-requires-clause-other_counted c =
     let old = c.args.reader.now in
     let at = ap (λ (f : ReaderState PlacedReply). f.place) v.1.3 in
     let end = placed-end old.place v.0 old.ahead c.read_next.new.self c.in-Ok-Value.placed v.1.2.0 v.1.2.1.0 v.1.2.1.1.1 at in
-    end-counted v.0 old.ahead c.in-Ok-Value.placed.end end
+    rw c.in-Ok-Value.field-0-is (end-counted v.0 old.ahead c.in-Ok-Value.placed.end end)
 
 pub joined_with-requires-clause-fits : goal.joined_with-requires-clause-fits
 joined_with-requires-clause-fits c =
@@ -25,7 +25,7 @@ joined_with-requires-clause-fits c =
     let old = c.args.reader.now in
     let at = ap (λ (f : ReaderState PlacedReply). f.place) v.1.3 in
     let end = placed-end old.place v.0 old.ahead c.read_next.new.self c.in-Ok-Value.placed v.1.2.0 v.1.2.1.0 v.1.2.1.1.1 at in
-    joined-fits old c.args.place.now c.in-Ok-Value.placed.end v.0 c.requires v.1.1 (taken-byte v.0 old.ahead c.in-Ok-Value.placed.end v.1.1 end)
+    rw c.in-Ok-Value.field-0-is (joined-fits old c.args.place.now c.in-Ok-Value.placed.end v.0 c.requires v.1.1 (taken-byte v.0 old.ahead c.in-Ok-Value.placed.end v.1.1 end))
 
 pub returns-in-Ok-Value-clause-steady : goal.returns-in-Ok-Value-clause-steady
 returns-in-Ok-Value-clause-steady c =
@@ -34,7 +34,8 @@ returns-in-Ok-Value-clause-steady c =
     let at = ap (λ (f : ReaderState PlacedReply). f.place) v.1.3 in
     let end = placed-end old.place v.0 old.ahead c.read_next.new.self c.in-Ok-Value.placed v.1.2.0 v.1.2.1.0 v.1.2.1.1.1 at in
     let byte = taken-byte v.0 old.ahead c.in-Ok-Value.placed.end v.1.1 end in
-    steady-after old c.read_next.new.self c.args.place.now c.in-Ok-Value.placed.end c.joined_with.result v.0 v.1.1 v.1.3 byte c.requires c.joined_with.ensures.joined c.joined_with.ensures.counted
+    let joined : c.joined_with.result ≡ joined_with c.args.place.now c.in-Ok-Value.placed.end = rw c.in-Ok-Value.field-0-is at c.joined_with.ensures.joined in
+    steady-after old c.read_next.new.self c.args.place.now c.in-Ok-Value.placed.end c.joined_with.result v.0 v.1.1 v.1.3 byte c.requires joined c.joined_with.ensures.counted
 
 pub returns-in-Ok-Value-clause-stands : goal.returns-in-Ok-Value-clause-stands
 returns-in-Ok-Value-clause-stands c = λ input s.
@@ -44,12 +45,13 @@ returns-in-Ok-Value-clause-stands c = λ input s.
     let end = placed-end old.place v.0 old.ahead c.read_next.new.self c.in-Ok-Value.placed v.1.2.0 v.1.2.1.0 v.1.2.1.1.1 at in
     let there = stands-after input old c.args.place.now c.in-Ok-Value.placed.end v.0 v.1.1 end s in
     let moved = subst (λ (f : ReaderState PlacedReply). StandsAt input f (joined_with c.args.place.now c.in-Ok-Value.placed.end)) (sym v.1.3) there in
-    subst (λ p. StandsAt input c.read_next.new.self p) (sym c.joined_with.ensures.joined) moved
+    let joined : c.joined_with.result ≡ joined_with c.args.place.now c.in-Ok-Value.placed.end = rw c.in-Ok-Value.field-0-is at c.joined_with.ensures.joined in
+    subst (λ p. StandsAt input c.read_next.new.self p) (sym joined) moved
 
 pub returns-in-Ok-Value-clause-reads : goal.returns-in-Ok-Value-clause-reads
 returns-in-Ok-Value-clause-reads c = λ input values h. (
   c.in-Ok-Value.placed ∷ [],
-  ((rw c.in-Ok-Value.field-0-is at c.in-Ok-Value.ensures.read) input values h, refl),
+  ((rw c.in-Ok-Value.field-0-is at c.in-Ok-Value.ensures.read) input values h, rw c.in-Ok-Value.field-0-is refl),
 )
 
 pub returns-in-Ok-NeedsMore-clause-reads : goal.returns-in-Ok-NeedsMore-clause-reads

@@ -15,7 +15,7 @@ returns-clause-told g c = λ whole before known written.
     let told = c.drive.ensures start [] had (refl, c.new-printing.ensures.prints had) in
     let tells = told-known (λ rest. TellsInput ghosts.means start.layout start.reader.parser rest had new c.drive.result) (g.R.Read.remaining c.args.input.now) whole known told before written in
     let parsed = subst (λ (parser : PlacedReply). OnAnswer c.drive.result (Tells ghosts.means start.layout parser whole before new c.drive.result)) c.new-printing.ensures.parser tells in
-    subst (λ (layout : Layout). OnAnswer c.drive.result (Tells ghosts.means layout _ whole before new c.drive.result)) c.new-printing.ensures.layout parsed
+    subst (λ (layout : Layout). OnAnswer c.drive.result (Tells ghosts.means layout (record { limits = c.args.limits }) whole before new c.drive.result)) c.new-printing.ensures.layout parsed
 
 pub returns-clause-printed : goal.returns-clause-printed
 returns-clause-printed g c = λ whole before known written.

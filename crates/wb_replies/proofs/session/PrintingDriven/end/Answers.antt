@@ -15,4 +15,4 @@ returns g c = λ start bytes had follows.
     let prints = subst (λ (l : Layout). Prints ghosts.means l parser bytes had held old.reader old.place) (sym follows.0) follows.1 in
     subst (λ (l : Layout). TellsInput ghosts.means l parser bytes had now c.print_last.result) follows.0
     (tells-last ghosts.means old.layout parser bytes had held now old.reader new.reader old.place new.place prints c.print_last.ensures.parser
-        c.print_last.result c.print_last.ensures.told c.print_last.ensures.ends)
+    c.print_last.result c.print_last.ensures.told c.print_last.ensures.ends)

@@ -29,4 +29,4 @@ returns-clause-tells g c = λ start bytes rest had follows.
     let prints = subst (λ (l : Layout). Prints ghosts.means l parser bytes had held old.reader old.place) (sym follows.0) follows.1 in
     subst (λ (l : Layout). IfErr c.print_piece.result (λ e. TellsInput ghosts.means l parser (bytes ++ (c.args.piece.now ++ rest)) had now (Err e))) follows.0
     (tells-on ghosts.means old.layout parser bytes had held now old.reader new.reader old.place new.place prints c.print_piece.ensures.parser
-        c.args.piece.now rest c.print_piece.result c.print_piece.ensures.told c.print_piece.ensures.failed)
+    c.args.piece.now rest c.print_piece.result c.print_piece.ensures.told c.print_piece.ensures.failed)
