@@ -1,5 +1,1 @@
-pub mod Positions
-pub mod Failure
-pub mod Printing
-pub mod Placing
-pub mod Session
+pub mod Told

@@ -9,9 +9,8 @@
 //! the text of the reply as it is, since it knows the command. This program sees replies alone, and
 //! prints each of them with quotes and escapes.
 //!
-//! `placed` is the record that is read: a reply, and how far its bytes move a position. `positions`
-//! counts bytes, lines and columns. `printing` is a reply as text. `program` is the loop over the
-//! pieces, and `failure` says why it stops.
+//! `program` prints them, by the crate `wb_replies`, which the tool `wb-resp` shares. `told` is what
+//! it says of a failure.
 //!
 //! The exit status is 0 at the end of the input, and where nothing reads the output any more; 2
 //! where no reply stands or the input ends inside a reply, and for arguments that are none; 3 if
@@ -19,13 +18,10 @@
 //! case. The longest reply and one piece bound the memory.
 #![tactic(auto)]
 
-mod failure;
-mod placed;
-mod positions;
-mod printing;
 mod program;
+mod told;
 
-use crate::failure::Failure;
+use crate::told::Told;
 use clap::ArgMatches;
 use clap::error::ErrorKind;
 use example_base::{Program, Trouble, words_of};
@@ -33,6 +29,7 @@ use format_resp::ReplyTo;
 use std::fs::File;
 use std::io;
 use std::process::ExitCode;
+use wb_replies::Failure;
 
 // The limits where no argument says otherwise.
 const LIMITS: ReplyTo = ReplyTo {
@@ -110,7 +107,7 @@ fn status_of(rt: &HostRuntime, answer: Result<(), Failure>) -> ExitCode {
         Err(failure) => {
             let status = failure.status();
             // If standard error cannot be written either, only the status reports the failure.
-            let _ = rt.eprintln(failure);
+            let _ = rt.eprintln(Told { failure });
             ExitCode::from(status)
         }
     }

@@ -1,0 +1,13 @@
+use Rattle.std.proofs.Common.{◌≡◌, ◌-◌, length, min, arith}
+use Rattle.format_resp.specs.Causes.{IsCauseOf}
+use Rattle.wb_replies.proofs.lemmas.CauseLemmas.{sides-within}
+use Rattle.wb_replies.proofs.session.cause_ahead.Goals as goal
+
+pub returns : goal.returns
+returns c =
+    let f = c.args.reader.now in
+    let bytes = c.ahead-ahead.result.now in
+    let k = c.args.bytes - f.place in
+    let within : c.min-width.result ≡ min k (length bytes) =
+    omega (arith, c.min-width.ensures, c.saturating_sub.ensures, c.place.ensures) in
+    sides-within (IsCauseOf c.cause_of.result) k c.min-width.result bytes f.ahead c.ahead-ahead.ensures within c.cause_of.ensures
