@@ -1,0 +1,4 @@
+pub mod Parts
+pub mod Names
+pub mod Messages
+pub mod Flags
