@@ -1,5 +1,5 @@
 -- What was read and written of an input, and what a failure says of it.
-use Rattle.std.specs.Prelude.{◌≡◌, ◌≢◌, ℕ, ◌+◌, ◌≤◌, ◌<◌, ◌^◌, Bool, true, false, List, [], ◌∷◌, ◌++◌, length, Option, None, Some, IfSome, Result, Ok, Err, ◌⊎◌, ⊤}
+use Rattle.std.specs.Prelude.{◌≡◌, ℕ, ◌+◌, ◌≤◌, ◌<◌, ◌^◌, true, false, List, [], ◌∷◌, ◌++◌, length, Option, IfSome, Result, Ok, Err, ◌⊎◌, ⊤}
 use Rattle.std.specs.List.{flat_map}
 use Rattle.std.specs.Io.KnownBytes.{Appends}
 use Rattle.winnow_reader.specs.State.{ReaderState, fed_of}
@@ -17,7 +17,7 @@ use Rattle.wb_base.specs.declared.excerpt.Excerpt.{Excerpt}
 use Rattle.wb_csv.specs.Settings.{width_of, FitAll, Refuses}
 use Rattle.wb_csv.specs.Lines.{line_of, exchanged_by}
 use Rattle.wb_csv.specs.Failures.{fault_at}
-use Rattle.wb_csv.specs.Progress.{feeds_in, IsOther}
+use Rattle.wb_csv.specs.Progress.{feeds_in}
 use Rattle.wb_csv.specs.declared.settings.Settings.{Settings}
 use Rattle.wb_csv.specs.declared.settings.Wanted.{Wanted}
 use Rattle.wb_csv.specs.declared.progress.Progress.{Progress}

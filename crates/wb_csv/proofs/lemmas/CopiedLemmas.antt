@@ -1,19 +1,18 @@
 -- What was copied of a text, as its pieces come.
-use Rattle.std.proofs.Common.{◌≡◌, ℕ, ◌+◌, ◌<◌, ◌^◌, Bool, true, false, List, [], ◌++◌, refl, ap, sym, ◌∙◌, subst, append_assoc}
+use Rattle.std.proofs.Common.{◌≡◌, ℕ, ◌+◌, ◌<◌, ◌^◌, true, false, List, [], ◌++◌, ap, sym, ◌∙◌, subst, append_assoc}
 use Rattle.std.specs.Prelude.{Option, Result, Ok, Err, OnOk, IfErr}
-use Rattle.std.specs.Io.KnownBytes.{Keeps, Appends}
+use Rattle.std.specs.Io.KnownBytes.{Appends}
 use Rattle.std.proofs.lemmas.List.{append-nil}
 use Rattle.std.proofs.lemmas.Grind.{flat_map-append}
 use Rattle.winnow_reader.specs.State.{ReaderState, pushed, ended_after, fed_of}
 use Rattle.winnow_reader.specs.Reading.{MayFollow}
 use Rattle.format_csv.specs.Tables.{AreRecords}
-use Rattle.format_csv.specs.RowReader.{HasRead, ReadsAlso, ReadsThrough}
+use Rattle.format_csv.specs.RowReader.{ReadsAlso, ReadsThrough}
 use Rattle.format_csv.specs.declared.grammar.Row.{Row}
 use Rattle.format_csv.proofs.lemmas.ReaderLemmas.{none-follows}
-use Rattle.wb_base.proofs.lemmas.KnownLemmas.{appends-start, appends-more}
+use Rattle.wb_base.proofs.lemmas.KnownLemmas.{appends-more}
 use Rattle.wb_csv.specs.Lines.{line_of}
-use Rattle.wb_csv.specs.Settings.{FitAll}
-use Rattle.wb_csv.specs.Copying.{lines_of, HasCounted, Copies, IsFailureOf, IsOfInput, IsBegun, ReadsLines, StopsAfter, WritesOn, StopsWith, CopiesAll, CopiesUntil, TellsText, AreShort}
+use Rattle.wb_csv.specs.Copying.{lines_of, HasCounted, Copies, IsFailureOf, IsBegun, ReadsLines, StopsAfter, WritesOn, StopsWith, CopiesAll, CopiesUntil, TellsText, AreShort}
 use Rattle.wb_csv.specs.declared.settings.Settings.{Settings}
 use Rattle.wb_csv.specs.declared.progress.Progress.{Progress}
 use Rattle.wb_csv.specs.declared.failure.Failure.{Failure}

@@ -21,8 +21,8 @@ use Rattle.wb_csv.specs.Lines.{exchanged_by}
 use Rattle.wb_csv.specs.Failures.{fault_at}
 use Rattle.wb_csv.specs.declared.failure.Failure.TheVariants.{Long}
 use Rattle.wb_csv.specs.Progress.{IsOther}
-use Rattle.wb_csv.specs.Settings.{Refuses, width_of}
-use Rattle.wb_csv.specs.Copying.{lines_of, HasCounted, BreaksAt, IsUneven, IsLong, IsOver, IsFailureOf, IsDamageAfter, IsBegun, ReadsLines, StopsAfter}
+use Rattle.wb_csv.specs.Settings.{Refuses}
+use Rattle.wb_csv.specs.Copying.{HasCounted, BreaksAt, IsUneven, IsLong, IsOver, IsFailureOf, IsDamageAfter, IsBegun, ReadsLines, StopsAfter}
 use Rattle.wb_csv.specs.declared.settings.Settings.{Settings}
 use Rattle.wb_csv.specs.declared.progress.Progress.{Progress}
 use Rattle.wb_csv.specs.declared.failure.Failure.{Failure}
@@ -131,7 +131,7 @@ excerpt-within (Some x) text before rest follow h = record {
   line_after = h.line_after;
 }
 
--- the same of exchanged bytes
+-- the line of exchanged bytes stays so, whatever stands before them and after them
 exchanged-within : (one other : ℕ) (excerpt : Option Excerpt) (text before rest follow : List ℕ)
     → IfSome excerpt (IsExcerpt (exchanged one other before) (exchanged one other rest))
     → IfSome excerpt (IsExcerpt (exchanged one other (text ++ before)) (exchanged one other (rest ++ follow)))

@@ -1,11 +1,9 @@
 -- Records that are no longer than a limit, and one that is.
 use Rattle.std.proofs.Common.{◌≡◌, ◌≢◌, ℕ, ◌+◌, ◌-◌, ◌≤◌, ◌<◌, ◌⊎◌, Bool, true, false, List, [], ◌∷◌, ◌++◌, length, drop, inl, inr, refl, ap, sym, ◌∙◌, subst, arith, append_assoc, length-append, length-drop}
-use Rattle.std.proofs.lemmas.List.{append-nil}
 use Rattle.winnow_reader.specs.State.{ReaderState, pushed, ended_after, taken_by}
 use Rattle.winnow_reader.specs.Reading.{MayFollow}
 use Rattle.format_csv.specs.Language.{RecordAhead}
 use Rattle.format_csv.specs.Filling.{IsUnfinished, BeginsJust}
-use Rattle.format_csv.specs.RowReader.{TakesRecord}
 use Rattle.format_csv.specs.declared.grammar.Row.{Row}
 use Rattle.format_csv.proofs.lemmas.ReaderLemmas.{none-follows}
 use Rattle.wb_csv.specs.Copying.{AreShort, IsOver}
@@ -13,7 +11,8 @@ use Rattle.wb_csv.specs.Copying.{AreShort, IsOver}
 -- ---- Short records
 
 -- short records, and one more of them
-short-push : (limit : ℕ) (bytes mid rest : List ℕ) (rows : List (List (List ℕ))) (row : List (List ℕ))
+short-push : (limit : ℕ) (bytes mid rest : List ℕ) (rows : List (List (List ℕ)))
+    (row : List (List ℕ))
     → AreShort limit bytes rows mid → RecordAhead false mid row rest
     → length mid ≤ limit + length rest → AreShort limit bytes (rows ++ row ∷ []) rest
 short-push limit bytes mid rest [] row e stands l = (
@@ -33,7 +32,8 @@ ReadsShort limit f input rows = (more : List ℕ) → MayFollow f.ended more fal
     → AreShort limit (input ++ more) rows (f.ahead ++ more)
 
 -- with a piece more the records are short
-pub shorts-pushed : (limit : ℕ) (f g : ReaderState Row) (input piece : List ℕ) (rows : List (List (List ℕ)))
+pub shorts-pushed : (limit : ℕ) (f g : ReaderState Row) (input piece : List ℕ)
+    (rows : List (List (List ℕ)))
     → f.ended ≡ false → g ≡ pushed f piece → ReadsShort limit f input rows
     → ReadsShort limit g (input ++ piece) rows
 shorts-pushed limit f g input piece rows goes e shorts more may =
@@ -48,7 +48,8 @@ after-end true more e may = may.0
 after-end false more e may = let f = e in cc
 
 -- and so they are at the end
-pub shorts-ended : (limit : ℕ) (f g : ReaderState Row) (input : List ℕ) (rows : List (List (List ℕ)))
+pub shorts-ended : (limit : ℕ) (f g : ReaderState Row) (input : List ℕ)
+    (rows : List (List (List ℕ)))
     → g ≡ ended_after f → ReadsShort limit f input rows → ReadsShort limit g input rows
 shorts-ended limit f g input rows e shorts more may =
     let none = after-end g.ended more (ap (λ (k : ReaderState Row). k.ended) e) may in
@@ -56,7 +57,8 @@ shorts-ended limit f g input rows e shorts more may =
     (subst (λ a. AreShort limit (input ++ []) rows (a ++ [])) (ap (λ (k : ReaderState Row). k.ahead) (sym e)) (shorts [] (none-follows f.ended)))
 
 -- and with a record more, if it is short
-pub shorts-value : (limit : ℕ) (f k : ReaderState Row) (input : List ℕ) (rows : List (List (List ℕ)))
+pub shorts-value : (limit : ℕ) (f k : ReaderState Row) (input : List ℕ)
+    (rows : List (List (List ℕ)))
     (row : List (List ℕ)) (n : ℕ) → ReadsShort limit f input rows → n ≤ length f.ahead
     → BeginsJust f.ended f.ahead row k.ahead → k ≡ taken_by f n → n ≤ limit
     → ReadsShort limit k input (rows ++ row ∷ [])
@@ -75,7 +77,8 @@ first [] = 0
 first (x ∷ xs) = x
 
 -- a front that is no longer than another one begins it
-front-begins : (a b c d : List ℕ) → a ++ b ≡ c ++ d → length c ≤ length a → a ≡ c ++ drop (length c) a
+front-begins : (a b c d : List ℕ) → a ++ b ≡ c ++ d → length c ≤ length a
+    → a ≡ c ++ drop (length c) a
 front-begins a b [] d e l = refl
 front-begins [] b (y ∷ c) d e l = absurd (omega (arith, l))
 front-begins (x ∷ a) b (y ∷ c) d e l =
@@ -85,7 +88,8 @@ front-begins (x ∷ a) b (y ∷ c) d e l =
 some-bytes : (bytes : List ℕ) → 0 < length bytes → bytes ≢ []
 some-bytes bytes l e = omega (arith, l, ap length e)
 
--- a record with an end of these bytes stands within the first of them, if it leaves more than follows
+-- a record with an end of these bytes stands within the first of them, if it leaves more than what
+-- follows
 stands-ended : (a follow text end rest : List ℕ) → a ++ follow ≡ text ++ (end ++ rest)
     → length follow < length rest → (mid : List ℕ) × ((a ≡ text ++ (end ++ mid)) × (a ≢ []))
 stands-ended a follow text end rest e l =
@@ -99,7 +103,8 @@ stands-ended a follow text end rest e l =
       ),
     )
 
-stands-within : (a follow rest : List ℕ) (row : List (List ℕ)) → RecordAhead false (a ++ follow) row rest
+stands-within : (a follow rest : List ℕ) (row : List (List ℕ))
+    → RecordAhead false (a ++ follow) row rest
     → length follow < length rest → (mid : List ℕ) × RecordAhead true a row mid
 stands-within a follow rest row (some, (text, (more, (e, spells, inl f)))) l =
     let s = stands-ended a follow text (13 ∷ 10 ∷ []) rest (e ∙ ap (λ m. text ++ m) f) l in
@@ -115,7 +120,8 @@ lt-or-le : (m n : ℕ) → (m < n) ⊎ (n ≤ m)
 lt-or-le m n = grind arith
 
 -- an unfinished record that is too long already is too long whatever follows
-pub over-unfinished : (limit : ℕ) (ended : Bool) (a follow : List ℕ) → IsUnfinished ended a → limit < length a
+pub over-unfinished : (limit : ℕ) (ended : Bool) (a follow : List ℕ) → IsUnfinished ended a
+    → limit < length a
     → IsOver limit (a ++ follow)
 over-unfinished limit ended a follow unfinished l = (
   omega (arith, l, length-append a follow),

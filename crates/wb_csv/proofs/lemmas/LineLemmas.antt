@@ -1,6 +1,6 @@
 -- Fields one after the other, by their indices.
 use Rattle.std.proofs.Common.{◌≡◌, ◌≢◌, ℕ, zero, suc, ◌+◌, ◌≤◌, ◌<◌, Bool, List, [], ◌∷◌, ◌++◌, ◌-◌, length, take, drop, map, get_or, refl, ap, sym, ◌∙◌, subst, arith, append_assoc}
-use Rattle.std.specs.Prelude.{Option, None, Some, ◌==◌, if◌then◌else◌, IsUtf8}
+use Rattle.std.specs.Prelude.{None, Some, ◌==◌, if◌then◌else◌, IsUtf8}
 use Rattle.std.specs.List.{flat_map, sum_by}
 use Rattle.std.proofs.lemmas.Bool.{ne_eqb}
 use Rattle.std.proofs.lemmas.List.{append-nil, take_all, take-append-drop}

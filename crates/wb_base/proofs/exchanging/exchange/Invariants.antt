@@ -1,4 +1,4 @@
-use Rattle.std.proofs.Common.{◌≡◌, ◌++◌, map, take, drop}
+use Rattle.std.proofs.Common.{◌≡◌, ◌++◌, take, drop}
 use Rattle.wb_base.specs.Exchanging.{exchanged}
 use Rattle.wb_base.proofs.exchanging.exchange.Given as goal
 

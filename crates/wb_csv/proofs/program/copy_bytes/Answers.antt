@@ -1,6 +1,6 @@
-use Rattle.std.proofs.Common.{◌≡◌, ℕ, List, sym, subst}
+use Rattle.std.proofs.Common.{ℕ, List, subst}
 use Rattle.std.specs.Prelude.{Option, OnOk, IfErr, IfSome}
-use Rattle.wb_csv.specs.Copying.{CopiesAll, CopiesUntil, CopiesBytes, StopsBytes}
+use Rattle.wb_csv.specs.Copying.{CopiesAll, CopiesBytes, StopsBytes}
 use Rattle.wb_csv.specs.declared.settings.Settings.{Settings}
 use Rattle.wb_csv.specs.declared.failure.Failure.TheVariants.{Marked}
 use Rattle.wb_csv.proofs.lemmas.CopiedLemmas.{on-ok, if-err}

@@ -1,4 +1,4 @@
-use Rattle.std.proofs.Common.{◌≡◌, ℕ, ◌-◌, true, false, List, take, drop, refl, ap, sym, ◌∙◌, subst, arith, length}
+use Rattle.std.proofs.Common.{◌≡◌, ◌-◌, true, false, take, drop, refl, ap, sym, ◌∙◌, subst, arith, length}
 use Rattle.winnow_reader.specs.State.{ReaderState, fed_of}
 use Rattle.format_csv.specs.declared.grammar.Row.{Row}
 use Rattle.csv.specs.Records.{fields_of}
