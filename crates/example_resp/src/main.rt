@@ -9,8 +9,8 @@
 //! the text of the reply as it is, since it knows the command. This program sees replies alone, and
 //! prints each of them with quotes and escapes.
 //!
-//! `program` prints them, by the crate `wb_replies`, which the tool `wb-resp` shares. `told` is what
-//! it says of a failure.
+//! `program` prints them, by the crate `wb_replies`, which the tool `wb-resp` shares. `told` is
+//! what it says of a failure.
 //!
 //! The exit status is 0 at the end of the input, and where nothing reads the output any more; 2
 //! where no reply stands or the input ends inside a reply, and for arguments that are none; 3 if

@@ -3,7 +3,7 @@ use Rattle.std.proofs.Common.{◌≡◌, ℕ, ◌-◌, Bool, true, false, List, 
 use Rattle.std.specs.Prelude.{not, Option, None, Some, IfSome, Result, Ok, Err}
 use Rattle.std.specs.Borrow.{Bor}
 use Rattle.std.proofs.lemmas.List.{append-nil, append_cancel_right, take-append-drop}
-use Rattle.winnow_stream.specs.Source.{Source, units, HasPositiveWidths}
+use Rattle.winnow_stream.specs.Source.{HasPositiveWidths}
 use Rattle.winnow_stream.specs.Units.{HasPositiveWidths-units}
 use Rattle.winnow_stream.specs.SliceBytes.{SlicesHaveBytes}
 use Rattle.winnow_parser.specs.Outcome.{Ahead, Meaning}
@@ -16,8 +16,6 @@ use Rattle.format_lemmas.proofs.lemmas.TokenLemmas.{itself}
 use Rattle.format_resp.specs.Ahead.{IsAhead}
 use Rattle.format_resp.specs.Meanings.{Nested}
 use Rattle.format_resp.specs.Language.{SpellAll, Spells}
-use Rattle.format_resp.specs.declared.grammar.ReplyTo.{ReplyTo}
-use Rattle.format_resp.specs.declared.reply.Reply.{Reply}
 use Rattle.format_resp.proofs.lemmas.AheadLemmas.{ahead-join, ahead-wide}
 use Rattle.format_resp.proofs.lemmas.ReplyLemmas.{yields-nested}
 use Rattle.wb_base.specs.Excerpts.{IsExcerpt}
@@ -30,7 +28,7 @@ use Rattle.wb_replies.specs.declared.placed.PlacedReply.{PlacedReply}
 use Rattle.wb_replies.specs.declared.positions.Position.{Position}
 use Rattle.wb_replies.specs.Placing.{Placing}
 use Rattle.wb_replies.specs.Positions.{start, position_after}
-use Rattle.wb_replies.specs.Replies.{PrintsFront, IsPlaceIn, PrintsInput}
+use Rattle.wb_replies.specs.Replies.{PrintsFront, PrintsInput}
 use Rattle.wb_replies.specs.Session.{OnAnswer, StandsAt, Tells, replies_of}
 use Rattle.wb_replies.proofs.lemmas.PositionLemmas.{position_after-append}
 

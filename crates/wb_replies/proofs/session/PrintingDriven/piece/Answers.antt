@@ -1,4 +1,4 @@
-use Rattle.std.proofs.Common.{◌++◌, sym, ◌∙◌, subst}
+use Rattle.std.proofs.Common.{◌++◌, sym, subst}
 use Rattle.std.specs.Prelude.{Err, IfErr}
 use Rattle.wb_replies.specs.declared.layout.Layout.{Layout}
 use Rattle.wb_replies.specs.Session.{Prints, TellsInput}
