@@ -1,6 +1,6 @@
 -- Events as they are written: 10 is a line feed, 36 a dollar sign, 44 a comma, 46 a point, 58 a
 -- colon and 95 a low line; 91 and 93 are the brackets of an array, 123 and 125 those of an object.
-use Rattle.std.specs.Prelude.{ℕ, ◌==◌, ◌||◌, ◌&&◌, Bool, true, false, if◌then◌else◌, List, [], ◌∷◌, ◌++◌, codes, decimal}
+use Rattle.std.specs.Prelude.{ℕ, ◌==◌, ◌||◌, ◌&&◌, Bool, false, if◌then◌else◌, List, [], ◌∷◌, ◌++◌, codes, decimal}
 use Rattle.std.specs.List.{flat_map, list_all}
 use Rattle.std.specs.Char.{is_ascii_alphabetic, is_ascii_digit}
 use Rattle.std.specs.String.{string_bytes}

@@ -1,5 +1,5 @@
 -- Where the next value of a text stands.
-use Rattle.std.specs.Prelude.{ℕ, ◌+◌, ◌-◌, List, [], ◌∷◌, ◌++◌, length, take, slice_get, unwrap_or}
+use Rattle.std.specs.Prelude.{◌+◌, ◌-◌, List, [], ◌∷◌, ◌++◌, length, take, slice_get, unwrap_or}
 use Rattle.format_json_events.specs.declared.event_reader.Event.{Event}
 use Rattle.format_json_events.specs.declared.event_reader.Event.TheVariants as event
 use Rattle.wb_json.specs.declared.path.Step.{Step}

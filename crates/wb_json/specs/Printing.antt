@@ -1,7 +1,7 @@
 -- What the program has read of its input, and what it writes.
 use Rattle.std.specs.Prelude.{◌≡◌, ℕ, Bool, true, false, List, [], ◌∷◌, ◌++◌, length, Option, None, Result, Ok, Err, ◌⊎◌}
 use Rattle.std.specs.Io.KnownBytes.{Appends}
-use Rattle.format_json_events.specs.Reading.{EventState, HasGiven, KeepsLimits, events_ended}
+use Rattle.format_json_events.specs.Reading.{EventState, HasGiven, KeepsLimits}
 use Rattle.format_json_events.specs.declared.event_reader.Event.{Event}
 use Rattle.format_json_events.specs.declared.event_reader.Event.TheVariants as event
 use Rattle.wb_json.specs.Paths.{Place, at_root, moved_by}

@@ -1,11 +1,8 @@
 -- What a failure says of an input.
-use Rattle.std.proofs.Common.{◌≡◌, ℕ, ◌+◌, List, ◌++◌, length, ap, sym, ◌∙◌, subst}
+use Rattle.std.proofs.Common.{ℕ, ◌+◌, List, ◌++◌, sym, subst}
 use Rattle.std.specs.Prelude.{Option}
-use Rattle.std.specs.Io.KnownBytes.{Appends}
-use Rattle.format_json_events.specs.Reading.{EventState, HasGiven}
-use Rattle.format_json_events.specs.declared.event_reader.Event.{Event}
-use Rattle.wb_json.specs.Paths.{Place}
-use Rattle.wb_json.specs.Windows.{IsWindow, IsPlaced, Tells}
+use Rattle.format_json_events.specs.Reading.{EventState}
+use Rattle.wb_json.specs.Windows.{IsWindow, Tells}
 use Rattle.wb_json.specs.Faults.{StopsAt, error_of, IsFailureOf}
 use Rattle.wb_json.specs.Taking.{StopsAfter}
 use Rattle.wb_json.specs.Printing.{BreaksOn}

@@ -1,12 +1,12 @@
 -- What is said of an answer, once the output is flushed, and of a printer that begins.
-use Rattle.std.proofs.Common.{◌≡◌, ℕ, Bool, true, false, List, [], ◌++◌, refl, sym, ap, ◌∙◌, subst, inl, inr}
+use Rattle.std.proofs.Common.{◌≡◌, ℕ, Bool, true, false, List, [], ◌++◌, refl, ap, ◌∙◌, subst, inl, inr}
 use Rattle.std.specs.Prelude.{Option, None, Some, Result, Ok, Err, OnOk, IfErr}
 use Rattle.std.specs.Io.KnownBytes.{Appends, Keeps}
 use Rattle.format_json_events.specs.Reading.{EventState, new_reader, HasGiven}
 use Rattle.wb_json.specs.Failures.{IsOfText}
 use Rattle.wb_json.specs.Windows.{IsWindow}
 use Rattle.wb_json.specs.Texts.{IsBefore}
-use Rattle.wb_json.specs.Printing.{Prints, PrintsMore, PrintsAll, PrintsUntil, TellsInput, IsFlushed, written, reached}
+use Rattle.wb_json.specs.Printing.{Prints, PrintsMore, PrintsUntil, TellsInput, IsFlushed, written, reached}
 use Rattle.wb_json.specs.declared.settings.Settings.{Settings}
 use Rattle.wb_json.specs.declared.failure.Failure.{Failure}
 use Rattle.wb_json.specs.declared.printing.Printing.{Printing}

@@ -1,24 +1,21 @@
 -- What was read and printed of an input, as more of it comes.
-use Rattle.std.proofs.Common.{◌≡◌, ℕ, ◌+◌, Bool, true, false, List, [], ◌++◌, length, refl, ap, sym, ◌∙◌, subst, inl, arith, append-nil, append_assoc}
+use Rattle.std.proofs.Common.{◌≡◌, ℕ, Bool, true, false, List, [], ◌++◌, length, refl, ap, sym, ◌∙◌, subst, inl, arith, append-nil, append_assoc}
 use Rattle.std.specs.Prelude.{Option, None, Some, IfSome, Result, Ok, Err, OnOk, IfErr}
 use Rattle.std.specs.Io.KnownBytes.{Appends}
-use Rattle.format_json_events.specs.Reading.{EventState, events_ended, HasGiven}
+use Rattle.format_json_events.specs.Reading.{EventState, events_ended}
 use Rattle.format_json_events.specs.declared.event_reader.Event.{Event}
-use Rattle.wb_base.specs.Positions.{line_feeds}
 use Rattle.wb_base.proofs.lemmas.RecentLemmas.{feeds-append}
-use Rattle.wb_json.specs.Paths.{Place, at_root}
+use Rattle.wb_json.specs.Paths.{Place}
 use Rattle.wb_json.specs.Lines.{lines_at}
-use Rattle.wb_json.specs.Windows.{IsWindow}
 use Rattle.wb_json.specs.Faults.{IsFailureOf}
 use Rattle.wb_json.specs.Texts.{IsText, IsBefore, IsWithin, IsAfter, InputHas}
-use Rattle.wb_json.specs.Printing.{Follows, IsBegun, FollowsOn, FailsOn, EndsText, Prints, PrintsMore, FailsMore, PrintsAll, PrintsUntil, TellsInput, written, reached, opening}
+use Rattle.wb_json.specs.Printing.{IsBegun, FollowsOn, FailsOn, EndsText, Prints, PrintsMore, FailsMore, PrintsAll, PrintsUntil, TellsInput, written, reached}
 use Rattle.wb_json.specs.declared.settings.Settings.{Settings}
 use Rattle.wb_json.specs.declared.failure.Failure.{Failure}
 use Rattle.wb_json.specs.declared.printing.Printing.{Printing}
-use Rattle.wb_json.proofs.lemmas.KnownLemmas.{appends-start, appends-more}
+use Rattle.wb_json.proofs.lemmas.KnownLemmas.{appends-more}
 use Rattle.wb_json.proofs.lemmas.LineLemmas.{written-more}
 use Rattle.wb_json.proofs.lemmas.FailureLemmas.{failure-longer}
-use Rattle.wb_json.proofs.lemmas.ResultLemmas.{on-ok, if-err}
 
 -- nothing is both true and false
 pub no-both : (b : Bool) → b ≡ true → b ≡ false → ⊥

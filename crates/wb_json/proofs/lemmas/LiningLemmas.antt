@@ -1,7 +1,6 @@
 -- What was read and printed of an input of which each line is a text, as more of it comes.
-use Rattle.std.proofs.Common.{◌≡◌, ℕ, ◌+◌, ◌≤◌, Bool, true, false, List, [], ◌∷◌, ◌++◌, length, take, drop, refl, ap, sym, ◌∙◌, subst, inl, inr, arith, append-nil, append_assoc}
+use Rattle.std.proofs.Common.{◌≡◌, ℕ, ◌≤◌, Bool, true, false, List, [], ◌∷◌, ◌++◌, length, take, drop, refl, ap, sym, ◌∙◌, subst, inl, inr, arith, append-nil, append_assoc}
 use Rattle.std.specs.Prelude.{Option, None, Result, Ok, Err, OnOk, IfErr}
-use Rattle.std.specs.List.{flat_map}
 use Rattle.std.specs.Io.KnownBytes.{Appends}
 use Rattle.std.proofs.lemmas.List.{take-append-drop}
 use Rattle.format_json.specs.Language.{after_blanks}
@@ -10,13 +9,13 @@ use Rattle.format_json_events.specs.declared.event_reader.Event.{Event}
 use Rattle.wb_base.proofs.lemmas.RecentLemmas.{feeds-append}
 use Rattle.wb_json.specs.Failures.{IsOfText}
 use Rattle.wb_json.specs.Windows.{IsWindow}
-use Rattle.wb_json.specs.Texts.{IsText, IsLine, AreLines, IsBlank, joined, IsTextLine, LineHas, LinesHave, InputHas, IsBefore}
-use Rattle.wb_json.specs.Printing.{Follows, IsBegun, FollowsOn, FailsOn, EndsText, PassesOver, Prints, IsReady, PrintsMore, FailsMore, PrintsAll, PrintsUntil, TellsInput, written, reached}
+use Rattle.wb_json.specs.Texts.{IsLine, AreLines, IsBlank, joined, LineHas, LinesHave, InputHas, IsBefore}
+use Rattle.wb_json.specs.Printing.{IsBegun, FollowsOn, FailsOn, EndsText, PassesOver, Prints, IsReady, PrintsMore, FailsMore, PrintsAll, PrintsUntil, TellsInput, written, reached}
 use Rattle.wb_json.specs.declared.settings.Settings.{Settings}
 use Rattle.wb_json.specs.declared.failure.Failure.{Failure}
 use Rattle.wb_json.specs.declared.printing.Printing.{Printing}
 use Rattle.wb_json.proofs.lemmas.BlankLemmas.{blanks-before, blanks-append}
-use Rattle.wb_json.proofs.lemmas.InputLemmas.{no-both, prints-unknown, wrote-more, prints-part, fails-part-of, fails-input, tells-text}
+use Rattle.wb_json.proofs.lemmas.InputLemmas.{prints-unknown, wrote-more, prints-part, fails-input, tells-text}
 
 -- ---- Lines
 

@@ -1,5 +1,5 @@
 -- What was read and printed of a text, as a part of it comes.
-use Rattle.std.proofs.Common.{◌≡◌, ℕ, ◌+◌, ◌<◌, ◌^◌, true, false, List, [], ◌++◌, length, refl, ap, sym, ◌∙◌, subst, arith, append-nil, append_assoc, length-append}
+use Rattle.std.proofs.Common.{◌≡◌, ℕ, ◌+◌, ◌<◌, ◌^◌, true, false, List, [], ◌++◌, length, ap, sym, ◌∙◌, subst, arith, append-nil, append_assoc, length-append}
 use Rattle.std.specs.Prelude.{Option, None}
 use Rattle.std.specs.Io.KnownBytes.{Appends}
 use Rattle.winnow_reader.specs.State.{fed_of}
@@ -10,7 +10,7 @@ use Rattle.wb_json.specs.Paths.{Place, moved_by}
 use Rattle.wb_json.specs.Lines.{lines_at}
 use Rattle.wb_json.specs.Windows.{IsWindow}
 use Rattle.wb_json.specs.Taking.{PrintsOn}
-use Rattle.wb_json.specs.Printing.{Follows, IsBegun, KeepsAll, BreaksOn, FollowsOn, FailsOn, EndsText, reached}
+use Rattle.wb_json.specs.Printing.{IsBegun, KeepsAll, BreaksOn, FollowsOn, FailsOn, EndsText, reached}
 use Rattle.wb_json.specs.declared.settings.Settings.{Settings}
 use Rattle.wb_json.specs.declared.window.Window.{Window}
 use Rattle.wb_json.specs.declared.failure.Failure.{Failure}

@@ -1,33 +1,20 @@
 -- What is written of a text that is a value, and that no failure comes of such a text.
-use Rattle.std.proofs.Common.{◌≡◌, ℕ, ◌+◌, ◌-◌, Bool, true, false, List, [], ◌∷◌, ◌++◌, length, take, refl, ap, sym, ◌∙◌, subst, inl, inr, append-nil}
-use Rattle.std.specs.Prelude.{Option, None, Some, IfSome, Result, Ok, Err, OnOk, IfErr, codes, slice_get, unwrap_or}
-use Rattle.std.specs.List.{flat_map}
-use Rattle.std.specs.String.{string_bytes}
+use Rattle.std.proofs.Common.{◌≡◌, ℕ, Bool, true, false, List, [], ◌++◌, length, refl, ap, sym, ◌∙◌, subst, inl, inr, append-nil}
+use Rattle.std.specs.Prelude.{Option, None, Some, IfSome, Result, Ok, Err, OnOk, IfErr}
 use Rattle.std.specs.Io.KnownBytes.{Appends}
 use Rattle.winnow_reader.specs.Reading.{MayFollow}
-use Rattle.format_json.specs.Quoting.{written_string}
-use Rattle.format_json.specs.Language.{bool_word}
-use Rattle.format_json.specs.SameValues.{SameAll}
 use Rattle.format_json.specs.Documents.{IsDocument, IsDamage}
 use Rattle.format_json_events.specs.Reading.{EventState, HasGiven, GivesOn, IsWhole, IsNext}
-use Rattle.format_json_events.specs.ValueEvents.{events_of, SameEvent, ReadsValue, AreAllOf, IsRefusal}
+use Rattle.format_json_events.specs.ValueEvents.{events_of, ReadsValue, AreAllOf, IsRefusal}
 use Rattle.format_json.specs.declared.value.Value.{Value}
 use Rattle.format_json.specs.declared.reading.Damage.{Damage}
 use Rattle.format_json_events.specs.declared.event_reader.Event.{Event}
-use Rattle.format_json_events.specs.declared.event_reader.Event.TheVariants as event
 use Rattle.format_json_events.specs.declared.event_reader.EventError.{EventError}
-use Rattle.format_json_events.specs.declared.event_reader.EventError.TheVariants as error
-use Rattle.wb_json.specs.Paths.{Place, at_root, next_step, passed, entered, closed, moved, moved_by}
-use Rattle.wb_json.specs.Lines.{step_text, member_text, path_text, value_text, assignment, comma_before, comma_between, feed_after, compact, line_of, lines_at}
 use Rattle.wb_json.specs.Failures.{IsOfText}
 use Rattle.wb_json.specs.Faults.{StopsAt, error_of, IsFailureOf}
 use Rattle.wb_json.specs.Texts.{IsBefore, IsAfter, InputHas}
-use Rattle.wb_json.specs.Printing.{PrintsAll, PrintsFront, PrintsUntil, opening, written}
+use Rattle.wb_json.specs.Printing.{PrintsAll, PrintsFront, PrintsUntil}
 use Rattle.wb_json.specs.Whole.{PrintsValue, IsOfNoValue}
-use Rattle.wb_json.specs.declared.path.Step.{Step}
-use Rattle.wb_json.specs.declared.path.Step.TheVariants.{Root, Element, Inside, Member}
-use Rattle.wb_json.specs.declared.settings.Layout.{Layout}
-use Rattle.wb_json.specs.declared.settings.Layout.TheVariants.{Assignments, Values, Nothing}
 use Rattle.wb_json.specs.declared.settings.Settings.{Settings}
 use Rattle.wb_json.specs.declared.failure.Fault.{Fault}
 use Rattle.wb_json.specs.declared.failure.Fault.TheVariants.{Damaged, Unexpected, TooDeep, EndsEarly}

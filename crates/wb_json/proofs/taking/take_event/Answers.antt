@@ -1,4 +1,3 @@
-use Rattle.std.proofs.Common.{refl}
 use Rattle.wb_json.proofs.lemmas.TakenLemmas.{prints-none, prints-event, waits-open, taken-error}
 use Rattle.wb_json.proofs.taking.take_event.Goals as goal
 

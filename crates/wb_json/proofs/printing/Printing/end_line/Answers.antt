@@ -1,4 +1,4 @@
-use Rattle.wb_json.proofs.lemmas.ResultLemmas.{on-ok, on-both, on-three, if-err}
+use Rattle.wb_json.proofs.lemmas.ResultLemmas.{on-three}
 use Rattle.wb_json.proofs.lemmas.LiningLemmas.{ends-blank, ready-more}
 use Rattle.wb_json.proofs.printing.Printing.end_line.Goals as goal
 

@@ -2,7 +2,7 @@ use Rattle.std.proofs.Common.{◌≡◌, ℕ, List, [], ◌++◌, true, sym, ap,
 use Rattle.wb_json.specs.Printing.{PassesOver, PrintsMore}
 use Rattle.wb_json.specs.declared.printing.Printing.{Printing}
 use Rattle.wb_json.proofs.lemmas.InputLemmas.{fails-part-of}
-use Rattle.wb_json.proofs.lemmas.ResultLemmas.{on-ok, on-both, on-three, if-err}
+use Rattle.wb_json.proofs.lemmas.ResultLemmas.{on-three, if-err}
 use Rattle.wb_json.proofs.lemmas.LiningLemmas.{first-blanks, passes-blanks, line-part, prints-both, fails-second, ready-begun, ready-more, none-left}
 use Rattle.wb_json.proofs.printing.Printing.print_first.Goals as goal
 

@@ -1,5 +1,5 @@
 use Rattle.wb_json.proofs.lemmas.InputLemmas.{fails-part-of}
-use Rattle.wb_json.proofs.lemmas.ResultLemmas.{on-ok, on-both, on-three, if-err}
+use Rattle.wb_json.proofs.lemmas.ResultLemmas.{on-three, if-err}
 use Rattle.wb_json.proofs.lemmas.LiningLemmas.{ready-begun, ready-more, line-part}
 use Rattle.wb_json.proofs.printing.Printing.print_in_line.Goals as goal
 

@@ -1,4 +1,3 @@
-use Rattle.wb_json.proofs.lemmas.ResultLemmas.{on-ok, on-both, on-three, if-err}
 use Rattle.wb_json.proofs.lemmas.LiningLemmas.{ready-begun}
 use Rattle.wb_json.proofs.printing.Printing.print_last.Goals as goal
 use Rattle.wb_json.proofs.lemmas.InputLemmas.{tells-text}

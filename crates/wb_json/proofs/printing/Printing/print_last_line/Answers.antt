@@ -1,4 +1,3 @@
-use Rattle.wb_json.proofs.lemmas.ResultLemmas.{on-ok, on-both, on-three, if-err}
 use Rattle.wb_json.proofs.lemmas.LiningLemmas.{ready-begun, tells-line, tells-blank}
 use Rattle.wb_json.proofs.printing.Printing.print_last_line.Goals as goal
 

@@ -1,5 +1,5 @@
 use Rattle.std.proofs.Common.{refl}
-use Rattle.wb_json.proofs.lemmas.ResultLemmas.{on-ok, on-both, on-three, if-err}
+use Rattle.wb_json.proofs.lemmas.ResultLemmas.{on-ok, if-err}
 use Rattle.wb_json.proofs.lemmas.LiningLemmas.{prints-both, fails-first, fails-second}
 use Rattle.wb_json.proofs.printing.Printing.print_line.Goals as goal
 

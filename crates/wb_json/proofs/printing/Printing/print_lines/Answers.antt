@@ -1,4 +1,4 @@
-use Rattle.std.proofs.Common.{◌≡◌, [], ◌∷◌, ◌++◌, refl, ap, sym, ◌∙◌, append_assoc}
+use Rattle.std.proofs.Common.{[], ◌∷◌, ◌++◌, refl, ap, sym, ◌∙◌, append_assoc}
 use Rattle.wb_json.specs.declared.settings.Settings.{Settings}
 use Rattle.wb_json.proofs.lemmas.ResultLemmas.{on-ok, if-err}
 use Rattle.wb_json.proofs.lemmas.LiningLemmas.{prints-none, prints-both, fails-first, fails-second}

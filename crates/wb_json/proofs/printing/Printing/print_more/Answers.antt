@@ -1,5 +1,5 @@
 use Rattle.wb_json.proofs.lemmas.InputLemmas.{no-both, prints-part, fails-part-of}
-use Rattle.wb_json.proofs.lemmas.ResultLemmas.{on-ok, on-both, on-three, if-err}
+use Rattle.wb_json.proofs.lemmas.ResultLemmas.{on-three, if-err}
 use Rattle.wb_json.proofs.lemmas.LiningLemmas.{ready-begun, ready-more}
 use Rattle.wb_json.proofs.printing.Printing.print_more.Goals as goal
 

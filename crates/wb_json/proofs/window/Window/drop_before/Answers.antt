@@ -1,4 +1,4 @@
-use Rattle.std.proofs.Common.{◌≡◌, ℕ, ◌+◌, ◌≤◌, ◌<◌, ◌^◌, List, ◌++◌, length, take, sym, ap, subst, arith}
+use Rattle.std.proofs.Common.{ℕ, ◌+◌, ◌≤◌, ◌<◌, ◌^◌, List, ◌++◌, length, take, subst, arith}
 use Rattle.wb_base.specs.Recents.{IsRecent}
 use Rattle.wb_json.proofs.lemmas.WindowLemmas.{window-drop}
 use Rattle.wb_json.proofs.window.Window.drop_before.Goals as goal

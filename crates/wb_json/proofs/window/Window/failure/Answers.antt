@@ -1,4 +1,4 @@
-use Rattle.std.proofs.Common.{◌≡◌, ℕ, ◌+◌, ◌-◌, ◌≤◌, List, length, take, drop, refl, ap, sym, ◌∙◌, subst, arith}
+use Rattle.std.proofs.Common.{◌≡◌, ◌+◌, ◌-◌, ◌≤◌, length, take, drop, refl, ap, ◌∙◌, subst, arith}
 use Rattle.wb_json.specs.Windows.{IsPlaced}
 use Rattle.wb_json.proofs.lemmas.WindowLemmas.{window-length, window-placed}
 use Rattle.wb_json.proofs.window.Window.failure.Goals as goal
