@@ -1,0 +1,14 @@
+pub mod KnownLemmas
+pub mod ResultLemmas
+pub mod LineLemmas
+pub mod PlaceLemmas
+pub mod WindowLemmas
+pub mod TakenLemmas
+pub mod FailureLemmas
+pub mod TextLemmas
+pub mod InputLemmas
+pub mod BlankLemmas
+pub mod LiningLemmas
+pub mod ValueLemmas
+pub mod FlushLemmas
+pub mod FeedLemmas

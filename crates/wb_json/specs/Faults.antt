@@ -1,0 +1,30 @@
+-- Where a reader of events stops, and what a failure says of that.
+use Rattle.std.specs.Prelude.{ℕ, ◌+◌, List, ◌⊎◌, ⊤}
+use Rattle.format_json_events.specs.Reading.{EventState, IsNoNext, IsMisplaced}
+use Rattle.format_json_events.specs.declared.event_reader.EventError.{EventError}
+use Rattle.format_json_events.specs.declared.event_reader.EventError.TheVariants as error
+use Rattle.wb_json.specs.Windows.{IsPlaced}
+use Rattle.wb_json.specs.declared.failure.Fault.{Fault}
+use Rattle.wb_json.specs.declared.failure.Fault.TheVariants.{Damaged, Unexpected, TooDeep, EndsEarly}
+use Rattle.wb_json.specs.declared.failure.Failure.{Failure}
+use Rattle.wb_json.specs.declared.failure.Failure.TheVariants.{Faulty, Stopped}
+
+-- the reader has no next event, for this reason: no token stands at the front of it, or one that
+-- may not
+abbrev pub StopsAt : EventState → EventError → Type 0
+StopsAt r e = IsNoNext r.text r.tokens e ⊎ ((new : EventState) × IsMisplaced r e new)
+
+-- the error of a reader that finds this fault at the place
+abbrev pub error_of : Fault → ℕ → EventError
+error_of (Damaged cause) place = error.Damaged place cause
+error_of Unexpected place = error.Unexpected place
+error_of TooDeep place = error.TooDeep place
+error_of EndsEarly place = error.EndsEarly place
+
+-- what a failure says of an input: the reader of a text, before which this many bytes of the input
+-- stand, stops with the fault, and its place has this position
+abbrev pub IsFailureOf : List ℕ → ℕ → EventState → Failure → Type 0
+IsFailureOf input start r (Faulty position fault excerpt) =
+    (place : ℕ) × (StopsAt r (error_of fault place)
+    × IsPlaced input (start + place) position excerpt)
+IsFailureOf input start r (Stopped trouble) = ⊤

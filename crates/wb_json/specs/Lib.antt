@@ -1,0 +1,9 @@
+pub mod Paths
+pub mod Lines
+pub mod Failures
+pub mod Windows
+pub mod Faults
+pub mod Taking
+pub mod Texts
+pub mod Printing
+pub mod Whole
