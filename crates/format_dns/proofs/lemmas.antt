@@ -1,3 +1,4 @@
 pub mod MessageLemmas
 pub mod NameLemmas
 pub mod PartLemmas
+pub mod PointerLemmas

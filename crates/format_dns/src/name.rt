@@ -11,7 +11,7 @@ pub enum Ending {
 
 /// A name as a message spells it: its labels, and what ends them (sections 3.1 and 4.1.4).
 ///
-/// Where a pointer leads is not looked at. Two names that are spelled otherwise may be the
+/// [`expand`](crate::expand) follows a pointer. Two names that are spelled otherwise may be the
 /// same domain.
 #[derive(Debug, Drop)]
 pub struct Name {

@@ -30,8 +30,8 @@ pub fn names() -> NameFormat {
     NameFormat
 }
 
-// Appends labels.
-fn write_labels(labels: &[Vec<u8>], bytes: &mut Vec<u8>) -> Result<(), Unwritten>
+/// Appends labels.
+pub(crate) fn write_labels(labels: &[Vec<u8>], bytes: &mut Vec<u8>) -> Result<(), Unwritten>
     ensures { Writes SpellsLabels labels.now bytes.old.items result bytes.new.items }
 {
     let start = bytes.len();

@@ -96,7 +96,7 @@ module _ (a b : Ahead ℕ) (vs : List (Vec ℕ Global)) (x : List ℕ) (spelled 
 -- ---- Writing
 
 -- a name that is spelled has labels and an ending that are
-name-parts : (vs : List (Vec ℕ Global)) (e : Ending) (bytes : List ℕ)
+pub name-parts : (vs : List (Vec ℕ Global)) (e : Ending) (bytes : List ℕ)
     → SpellsEach SpellsPart (ended vs e) bytes
     → (x : List ℕ) × ((y : List ℕ) × (SpellsLabels vs x × SpellsPart (Other e) y))
 name-parts [] e bytes (b, c, (i, j, d)) = ([], (b, (refl, i)))
