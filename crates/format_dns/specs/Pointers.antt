@@ -12,7 +12,8 @@ use Rattle.format_dns.specs.declared.expansion.Unexpanded.TheVariants as why
 -- the name stands at this place of the message
 abbrev pub NameAt : List ℕ → ℕ → Name → Type 0
 NameAt message place name =
-    (front : List ℕ) × ((rest : List ℕ) × (SpellsName name front × (drop place message ≡ front ++ rest)))
+    (front : List ℕ) × ((rest : List ℕ)
+    × (SpellsName name front × (drop place message ≡ front ++ rest)))
 
 -- from this ending on, which may lead to places below the limit, pointers lead through these names:
 -- each to a place further back, where the next name stands. The last one has that ending, and was
