@@ -23,7 +23,7 @@ REFUSING = ("AllocError", "RecordError", "RowError", "FieldError", "ReadError", 
 MADE = {"winnow_combinator/src/parsers/separated.rt", "winnow_resume/src/following.rt", "winnow_script_lines/src/literals.rt"}
 
 # The formats that are made of formats, and the functions that write several.
-OF_PARTS = r"\bFormat\s+for (\(|&|(After|AtMost|ByCode|EitherFormat|EnumOf|OneValue|PresentIf|Struct|Tagged|Then|Verified|WithinCount)<)"
+OF_PARTS = r"\bFormat\s+for (\(|&|(After|AtMost|ByCode|EitherFormat|EnumOf|InLayers|MappedBy|OneValue|PresentIf|Struct|Tagged|Then|Verified|WithinCount)<)"
 ROWS = ["two", "three", "four", "five", "six", "seven", "eight", "nine", "ten", "first", "second", "third", "last_of_two", "last_of_three", "last_of_four", "in_range", "other_of_two", "other_of_three"]
 
 # How an impl says that a method is never refused memory of its own.

@@ -148,6 +148,8 @@ pub use Rattle.winnow_codec.specs.SignedDecimals
 pub use Rattle.winnow_codec.specs.Verified
 pub use Rattle.winnow_codec.specs.WholeFormats
 pub use Rattle.winnow_codec.specs.Writing
+pub use Rattle.winnow_codec_mapped.specs.Mapped
+pub use Rattle.winnow_codec_mapped.specs.Floats
 pub use Rattle.winnow_reader_limit.specs.Bound
 pub use Rattle.winnow_reader_limit.specs.Limit
 pub use Rattle.winnow_reader_limit.specs.LimitTelling

@@ -17,6 +17,7 @@
 
 pub mod ascii;
 pub mod binary;
+pub mod codec;
 pub mod combinator;
 pub mod error;
 pub mod laws;
@@ -25,7 +26,6 @@ pub mod token;
 
 pub use winnow_base::stream;
 pub use winnow_base::stream::{BStr, Bytes, LocatingSlice, Partial, Stateful};
-pub use winnow_codec as codec;
 pub use winnow_exact as exact;
 pub use winnow_grammar as grammar;
 pub use winnow_grammar::{ByRule, Rule, by_rule};
