@@ -1,6 +1,6 @@
 -- The layers of terms: their heads, and the terms that they hold.
 use Rattle.std.specs.declared.alloc.Global.{Global}
-use Rattle.std.specs.Prelude.{Vec, ◌≡◌, ℕ, ℤ, List, [], length}
+use Rattle.std.specs.Prelude.{Vec, ℕ, ℤ, List, [], length}
 use Rattle.std.proofs.Common.{refl}
 use Rattle.winnow_codec.specs.Bytes.{HaveSameBytes}
 use Rattle.winnow_codec.specs.Cases.{AreSameCase}

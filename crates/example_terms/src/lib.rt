@@ -8,4 +8,4 @@ mod exchange;
 mod term;
 
 pub use exchange::{read_term, term_law, write_term};
-pub use term::{Heads, Term, TermLayers, terms};
+pub use term::{Heads, HeldBytes, Term, TermLayers, terms};

@@ -1,5 +1,6 @@
 //! The format of a term: a value that holds values of its own type.
 
+ghost use Rattle.std.specs.Prelude.{◌≡◌, IfOk, length};
 ghost use Rattle.example_terms.specs.Layers.{head_of, held, count_after, CountsAlike-Heads};
 
 use std::alloc::{AllocError, Global};
@@ -22,11 +23,14 @@ pub enum Term {
     Binary(Vec<u8>),
 }
 
+/// The format of the bytes of a binary, after their number.
+pub type HeldBytes = BytesAfter<Be<Count<u32>>>;
+
 /// The format of what comes before the terms inside: a tag, and a number, how many terms follow, or
 /// bytes.
 pub type Heads = Tagged<
     OneByte,
-    At<97, Be<u8>, At<98, Be<i32>, At<104, Be<Count<u8>>, LastAt<109, BytesAfter<Be<Count<u32>>>>>>>,
+    At<97, Be<u8>, At<98, Be<i32>, At<104, Be<Count<u8>>, LastAt<109, HeldBytes>>>>,
 >;
 
 /// How a term holds terms.
@@ -90,7 +94,11 @@ impl Layered for TermLayers {
         _alloc: Global,
         head: Choice<u8, Choice<i32, Choice<usize, Vec<u8>>>>,
         inners: Vec<Term>,
-    ) -> Result<Term, AllocError> {
+    ) -> Result<Term, AllocError>
+        requires { length inners.items ≡ count_after head }
+        ensures head { IfOk result (λ term. head_of term ≡ head) }
+        ensures held { IfOk result (λ term. held term ≡ inners.items) }
+    {
         match head {
             Choice::First(number) => Ok(Term::Small(number)),
             Choice::Other(Choice::First(number)) => Ok(Term::Integer(number)),
@@ -101,8 +109,13 @@ impl Layered for TermLayers {
 }
 
 /// Returns the format of a term in at most this many layers: 1 allows those that hold no others.
-pub fn terms(depth: usize) -> InLayers<TermLayers, Heads> {
+pub fn terms(depth: usize) -> InLayers<TermLayers, Heads>
+    ensures { result.depth ≡ depth }
+{
     let binary = bytes_after(count_of(be_u32()));
-    let heads = by_tag(byte(), At(u8(), At(be_i32(), At(count_of(u8()), LastAt(binary)))));
+    let heads = by_tag(
+        byte(),
+        At(u8(), At(be_i32(), At(count_of(u8()), LastAt(binary)))),
+    );
     nested(TermLayers, heads, depth)
 }

@@ -1,7 +1,7 @@
 //! Formats of bytes that are read and written by one description.
 //!
-//! `winnow_codec` has them, and `winnow_codec_mapped` values that stand for those of a format, as
-//! floats do.
+//! `winnow_codec` has them, `winnow_codec_mapped` those of values that stand for others, as floats
+//! do, and `winnow_codec_nested` those of values that hold values of their own type.
 
 pub use winnow_codec::After;
 pub use winnow_codec::Allowed;
@@ -161,3 +161,4 @@ pub use winnow_codec_mapped::be_f64;
 pub use winnow_codec_mapped::le_f32;
 pub use winnow_codec_mapped::le_f64;
 pub use winnow_codec_mapped::mapped;
+pub use winnow_codec_nested::{InLayers, Layered, nested};

@@ -11,8 +11,8 @@ module _ {A V : Type 0} (value_of : A → Option V) (same : A → A → Type 0) 
   HasValue a bytes = ((v : V) × (value_of a ≡ Some v)) × inner a bytes
 
   -- a value is read for which none stands
-  pub none-mapped : IsExact same → IsPrefixFree same inner → (partial : Bool) (a b : Ahead ℕ) (x : A)
-      → value_of x ≡ None → Reads inner partial a (Gives x b)
+  pub none-mapped : IsExact same → IsPrefixFree same inner → (partial : Bool) (a b : Ahead ℕ)
+      (x : A) → value_of x ≡ None → Reads inner partial a (Gives x b)
       → Reads (SpellsMapped value_of inner) partial a (Fails (Backtracks b))
   unfolding HasValue
   none-mapped exact laws partial a b x none h =
