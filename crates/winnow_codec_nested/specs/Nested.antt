@@ -76,7 +76,7 @@ module _ {H V : Type 0} (alike : H → H → Type 0) (heads : Spelling H) (head_
     layer-format inner g =
         let same = AreSameEach (AreSameNested alike head_of inners) in
         let both = IsFormat-Both alike same heads (λ h. SpellsTimes inner (count h)) f
-            (λ h. IsFormat-Times (AreSameNested alike head_of inners) inner g (count h)) (chooses counts inner) in
+        (λ h. IsFormat-Times (AreSameNested alike head_of inners) inner g (count h)) (chooses counts inner) in
         let laws = IsFormat-Parts (layer_of head_of inners) (AreBothSame alike same) (SpellsBoth heads (λ h. SpellsTimes inner (count h))) both in
         record {
           canonical = laws.canonical;

@@ -5,4 +5,4 @@ mod layered;
 mod reading;
 mod writing;
 
-pub use layered::{Layered, InLayers, nested};
+pub use layered::{InLayers, Layered, nested};

@@ -58,9 +58,14 @@ module _ {H V : Type 0} (heads : Spelling H) (head_of : V → H) (held : V → L
       → Reads heads partial a (Gives h b) → Reads (SpellsTimes inner (count h)) partial b (Gives vs c)
       → Reads (SpellsLayer heads head_of held count inner) partial a (Gives v c)
   layer-given c h vs v e d i j =
-      let both = both-given heads (λ k. SpellsTimes inner (count k)) partial a b c h vs i j in
-      (both.0, (subst (λ k. SpellsBoth heads (λ l. SpellsTimes inner (count l)) (k, held v) both.0) (sym e)
-      (subst (λ k. SpellsBoth heads (λ l. SpellsTimes inner (count l)) (h, k) both.0) (sym d) both.1.0), both.1.1))
+      let both = both-given heads (λ k. SpellsTimes inner (count k)) partial a b c h vs i j in (
+        both.0,
+        (
+          subst (λ k. SpellsBoth heads (λ l. SpellsTimes inner (count l)) (k, held v) both.0) (sym e)
+              (subst (λ k. SpellsBoth heads (λ l. SpellsTimes inner (count l)) (h, k) both.0) (sym d) both.1.0),
+          both.1.1,
+        ),
+      )
 
   -- a head is not read
   pub layer-unbegun : (f : Failed ℕ) → Reads heads partial a (Fails f)
