@@ -112,7 +112,7 @@ impl Printing {
             (W.contents output.old) (W.contents output.new)) }
     {
         match take_events(
-            self.settings.layout,
+            self.settings,
             &mut self.reader,
             &mut self.path,
             &mut self.text,
