@@ -203,6 +203,8 @@ impl Printing {
             return Err(failure);
         }
         self.window.begin_text();
+        // However many they are, no more of them are kept than a line shows.
+        self.window.drop_before(0);
         Ok(())
     }
 
