@@ -17,7 +17,7 @@ import sys
 TOP = os.path.dirname(os.path.dirname(os.path.realpath(__file__)))
 
 # The types whose values may say that memory was refused.
-REFUSING = ("AllocError", "RecordError", "RowError", "FieldError", "ReadError", "ModalResult", "WholeResult", "Unread", "Unwritten", "EventError")
+REFUSING = ("AllocError", "RecordError", "RowError", "FieldError", "ReadError", "ModalResult", "WholeResult", "Unread", "Unwritten", "EventError", "WithinError")
 
 # The sources that make an `AllocError`: of more separators than a `usize` counts, and of the want of memory that `hex` and a record of an error tell of.
 MADE = {"winnow_combinator/src/parsers/separated.rt", "winnow_resume/src/following.rt", "winnow_script_lines/src/literals.rt"}

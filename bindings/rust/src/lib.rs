@@ -10,7 +10,16 @@
 //! }
 //! ```
 //!
-//! [`json_events`] iterates over the events of a source such as a file.
+//! [`json_events`], [`csv_records`] and [`resp_events`] iterate over what a source such as a file has.
+//!
+//! ```no_run
+//! # fn main() -> std::io::Result<()> {
+//! for record in woldbraid::csv_records(std::fs::File::open("table.csv")?) {
+//!     println!("{} fields", record?.len());
+//! }
+//! # Ok(())
+//! # }
+//! ```
 //!
 //! ```no_run
 //! let mut writer = woldbraid::JsonWriter::new(512).unwrap();
@@ -20,13 +29,14 @@
 //! println!("{}", String::from_utf8_lossy(writer.written()));
 //! ```
 
+mod sources;
 mod writers;
 
+pub use sources::{csv_records, json_events, resp_events, CsvRecords, JsonEvents, OwnedEvent, OwnedReply, RespEvents, SourceError};
 pub use writers::{CsvWriter, JsonWriter, RespWriter};
 
 use std::ffi::{c_char, CStr};
 use std::fmt;
-use std::io::{self, Read};
 use std::marker::PhantomData;
 use std::ptr::NonNull;
 
@@ -167,6 +177,11 @@ impl Error {
         Error { status, cause: 0, place: 0, is_of_reply: false }
     }
 
+    /// Returns that memory was refused.
+    pub(crate) fn refused() -> Self {
+        Error::of(REFUSED)
+    }
+
     /// Returns whether memory was refused: then nothing is lost, and the call may be made again.
     pub fn is_refused(&self) -> bool {
         self.status == REFUSED
@@ -284,92 +299,6 @@ impl Drop for JsonReader {
     fn drop(&mut self) {
         // SAFETY: the reader was made, and is freed here alone.
         unsafe { wb_json_free(self.reader.as_ptr()) };
-    }
-}
-
-/// An event that has its text.
-#[derive(Clone, Debug, PartialEq)]
-pub enum OwnedEvent {
-    StartArray,
-    EndArray,
-    StartObject,
-    EndObject,
-    /// The name of a member, whose value comes next
-    Key(String),
-    Null,
-    Bool(bool),
-    /// A number as it is written, and the integer that it is, if an `i64` has it
-    Number(String, Option<i64>),
-    String(String),
-}
-
-impl From<Event<'_>> for OwnedEvent {
-    fn from(event: Event<'_>) -> Self {
-        match event {
-            Event::StartArray => OwnedEvent::StartArray,
-            Event::EndArray => OwnedEvent::EndArray,
-            Event::StartObject => OwnedEvent::StartObject,
-            Event::EndObject => OwnedEvent::EndObject,
-            Event::Key(name) => OwnedEvent::Key(name.to_owned()),
-            Event::Null => OwnedEvent::Null,
-            Event::Bool(value) => OwnedEvent::Bool(value),
-            Event::Number(text, integer) => OwnedEvent::Number(text.to_owned(), integer),
-            Event::String(value) => OwnedEvent::String(value.to_owned()),
-        }
-    }
-}
-
-/// The events of a JSON text that a source has; an error ends them.
-pub struct JsonEvents<R> {
-    reader: JsonReader,
-    source: R,
-    piece: Vec<u8>,
-    has_ended: bool,
-    is_over: bool,
-}
-
-/// Returns the events of the JSON text of a source, of values within 512 arrays and objects.
-pub fn json_events<R: Read>(source: R) -> io::Result<JsonEvents<R>> {
-    let reader = JsonReader::new(512, 1 << 24).ok_or(io::ErrorKind::OutOfMemory)?;
-    Ok(JsonEvents { reader, source, piece: vec![0; 1 << 16], has_ended: false, is_over: false })
-}
-
-impl<R: Read> JsonEvents<R> {
-    fn read_next(&mut self) -> io::Result<Option<OwnedEvent>> {
-        loop {
-            match self.reader.next().map_err(invalid)? {
-                Next::Event(event) => return Ok(Some(event.into())),
-                Next::Done => return Ok(None),
-                Next::NeedsMore => {}
-            }
-            match self.source.read(&mut self.piece) {
-                Ok(0) if !self.has_ended => {
-                    self.has_ended = true;
-                    self.reader.end();
-                }
-                Ok(length) => self.reader.push(&self.piece[..length]).map_err(invalid)?,
-                Err(error) if error.kind() == io::ErrorKind::Interrupted => {}
-                Err(error) => return Err(error),
-            }
-        }
-    }
-}
-
-fn invalid(error: Error) -> io::Error {
-    let kind = if error.is_refused() { io::ErrorKind::OutOfMemory } else { io::ErrorKind::InvalidData };
-    io::Error::new(kind, error)
-}
-
-impl<R: Read> Iterator for JsonEvents<R> {
-    type Item = io::Result<OwnedEvent>;
-
-    fn next(&mut self) -> Option<Self::Item> {
-        if self.is_over {
-            return None;
-        }
-        let answer = self.read_next().transpose();
-        self.is_over = !matches!(answer, Some(Ok(_)));
-        answer
     }
 }
 

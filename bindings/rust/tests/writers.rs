@@ -23,7 +23,7 @@ fn a_json_text_is_written_and_read() {
     writer.end_object().unwrap();
     assert!(writer.is_whole());
     text.extend_from_slice(writer.written());
-    let events: Vec<OwnedEvent> = json_events(&text[..]).unwrap().collect::<Result<_, _>>().unwrap();
+    let events: Vec<OwnedEvent> = json_events(&text[..]).collect::<Result<_, _>>().unwrap();
     assert_eq!(
         events,
         [

@@ -5,6 +5,7 @@ pub mod NextTokenLemmas
 pub mod WaitLemmas
 pub mod AheadLemmas
 pub mod EventLemmas
+pub mod LengthLemmas
 pub mod SameTurnLemmas
 pub mod ValueTurnLemmas
 pub mod AllowedTokenLemmas

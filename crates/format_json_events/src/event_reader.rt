@@ -5,7 +5,7 @@ ghost use Rattle.format_json.specs.Reading.{FindsDamage};
 ghost use Rattle.format_json_events.specs.Turns.{state_of};
 ghost use Rattle.format_json_events.specs.Reading.{IsComing, IsNoNext, error_at};
 
-use crate::blanks::{drop_blanks, token_start};
+use crate::blanks::{ahead_count, drop_blanks, token_start};
 use crate::syntax::{Syntax, Taken};
 use crate::turns::Misplaced;
 use format_json::{Cause, JsonToken, Number, Token, blank_count, cause_of, is_cut};
@@ -72,6 +72,18 @@ pub enum EventError {
     Refused(AllocError),
 }
 
+/// Why a reader with a limit on tokens has no event.
+#[derive(Clone, Copy, Debug, Drop, PartialEq, Eq)]
+pub enum WithinError {
+    /// A token has more bytes than the limit allows, or has not ended within them
+    TooLong {
+        /// Where it begins in the joined input
+        place: usize,
+    },
+    /// The reader has none without the limit either
+    Failed(EventError),
+}
+
 // What comes next of a text.
 #[derive(Debug, Drop)]
 enum Coming {
@@ -134,8 +146,8 @@ impl Model for EventReader {
 }
 
 impl EventReader {
-    ghost use Rattle.std.specs.Prelude.{◌≡◌, ◌+◌, ◌<◌, ◌^◌, Some, None, [], false, length};
-    ghost use Rattle.std.specs.Prelude.{OnOk, OnErr, Err};
+    ghost use Rattle.std.specs.Prelude.{◌≡◌, ◌+◌, ◌<◌, ◌≤◌, ◌^◌, Some, None, [], false, length};
+    ghost use Rattle.std.specs.Prelude.{OnOk, OnErr, IfOk, Ok, Err};
     ghost use Rattle.winnow_reader.specs.State.{fed_of};
     ghost use Rattle.format_json_events.specs.Reading.{new_reader, events_pushed};
     ghost use Rattle.format_json_events.specs.Reading.{events_unspent};
@@ -144,7 +156,12 @@ impl EventReader {
     ghost use Rattle.format_json_events.specs.Reading.{KeepsLimits};
     ghost use Rattle.format_json_events.specs.Reading.{step_events, next_events, IsStep};
     ghost use Rattle.format_json_events.specs.Reading.{IsNext};
+    ghost use Rattle.format_json_events.specs.Lengths.{KeepsShort, TakesStep};
+    ghost use Rattle.format_json_events.specs.Lengths.{IsStepWithin, IsNextWithin};
+    ghost use Rattle.winnow_reader.specs.declared.next.Next.TheVariants as next;
     ghost use Rattle.format_json_events.specs.declared.event_reader.EventError.{EventError};
+    ghost use Rattle.format_json_events.specs.declared.event_reader.WithinError.TheVariants.{Failed};
+    ghost use Rattle.format_json_events.specs.declared.event_reader.Step.TheVariants as step;
 
     /// Returns a reader that nothing was pushed to.
     pub fn new(alloc: Global, depth: usize) -> EventReader
@@ -202,10 +219,71 @@ impl EventReader {
         }
     }
 
+    /// Reads the next event, as [`next_event`](EventReader::next_event) does, if no token up to it
+    /// has more bytes than the limit.
+    ///
+    /// A token that is too long fails once more bytes of it than the limit are ahead, so where more
+    /// is needed, no more than these are kept. After it the reader may have taken that token, and
+    /// is not to be called again.
+    pub fn next_within(&mut self, limit: usize) -> Result<Next<Event>, WithinError>
+        ensures read { IfOk result (λ n. GivesOn self.old (next_events (Ok n)) self.new) }
+        ensures keeps { KeepsLimits self.old self.new }
+        ensures short { OnOk result (KeepsShort limit self.old self.new) }
+        ensures stopped { (e : EventError) → self.old.stopped ≡ Some e
+            → (result ≡ Err (Failed e)) × (self.new ≡ self.old) }
+        ensures answer { self.old.stopped ≡ None
+            → IsNextWithin limit self.old result self.new }
+        ensures kept { IfOk result (λ n. n ≡ next.NeedsMore
+            → length self.new.tokens.ahead ≤ limit) }
+    {
+        loop {
+            match self.step_within(limit) {
+                Ok(Step::Took(Taken::Has(event))) => return Ok(Next::Value(event)),
+                Ok(Step::Took(Taken::Passes)) => {}
+                Ok(Step::Done) => return Ok(Next::Done),
+                Ok(Step::NeedsMore) => return Ok(Next::NeedsMore),
+                Err(error) => return Err(error),
+            }
+        }
+    }
+
+    // Takes the next token, if its bytes are there and no more than the limit.
+    fn step_within(&mut self, limit: usize) -> Result<Step, WithinError>
+        ensures read { IfOk result (λ s. GivesOn self.old (step_events (Ok s)) self.new) }
+        ensures keeps { KeepsLimits self.old self.new }
+        ensures short { OnOk result (KeepsShort limit self.old self.new) }
+        ensures stopped { (e : EventError) → self.old.stopped ≡ Some e
+            → (result ≡ Err (Failed e)) × (self.new ≡ self.old) }
+        ensures answer { self.old.stopped ≡ None
+            → IsStepWithin limit self.old result self.new }
+        ensures kept { IfOk result (λ s. s ≡ step.NeedsMore
+            → length self.new.tokens.ahead ≤ limit) }
+    {
+        let place = token_start(&self.tokens);
+        let whole = ahead_count(&self.tokens);
+        match self.step() {
+            Ok(Step::Took(taken)) => {
+                if limit < whole.saturating_sub(self.tokens.ahead().len()) {
+                    return Err(WithinError::TooLong { place });
+                }
+                Ok(Step::Took(taken))
+            }
+            Ok(Step::Done) => Ok(Step::Done),
+            Ok(Step::NeedsMore) => {
+                if limit < whole {
+                    return Err(WithinError::TooLong { place });
+                }
+                Ok(Step::NeedsMore)
+            }
+            Err(error) => Err(WithinError::Failed(error)),
+        }
+    }
+
     // Takes the next token, if its bytes are there.
     fn step(&mut self) -> Result<Step, EventError>
         ensures read { GivesOn self.old (step_events result) self.new }
         ensures keeps { KeepsLimits self.old self.new }
+        ensures takes { TakesStep self.old.tokens result self.new.tokens }
         ensures stopped { (e : EventError) → self.old.stopped ≡ Some e
             → (result ≡ Err e) × (self.new ≡ self.old) }
         ensures answer { self.old.stopped ≡ None → IsStep self.old result self.new }

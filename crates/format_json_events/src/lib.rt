@@ -17,5 +17,5 @@ mod laws;
 mod syntax;
 mod turns;
 
-pub use event_reader::{Event, EventError, EventReader};
+pub use event_reader::{Event, EventError, EventReader, WithinError};
 pub use laws::{events_law, stops_law};

@@ -5,3 +5,4 @@ pub mod DamageLemmas
 pub mod CopiedLemmas
 pub mod StartLemmas
 pub mod LimitLemmas
+pub mod PlainLemmas

@@ -3,3 +3,4 @@ pub mod Lines
 pub mod Failures
 pub mod Progress
 pub mod Copying
+pub mod Plain

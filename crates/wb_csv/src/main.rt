@@ -24,6 +24,7 @@
 mod arguments;
 mod copying;
 mod failure;
+mod laws;
 mod lines;
 mod program;
 mod progress;

@@ -5,9 +5,11 @@ ghost use Rattle.std.specs.Prelude.{IfSome};
 ghost use Rattle.std.specs.Io.KnownBytes.{Consumes, IsAtEnd, prepend_known};
 ghost use Rattle.wb_csv.specs.Copying.{IsOfInput, Copies, CopiesAll, CopiesUntil};
 ghost use Rattle.wb_csv.specs.Copying.{CopiesBytes, StopsBytes, CopiesInput, StopsInput};
+ghost use Rattle.wb_csv.specs.Plain.{IsPlain, CopiesPlain};
 
 use crate::copying::Copying;
 use crate::failure::Failure;
+use crate::laws::comma_law;
 use crate::settings::Settings;
 use example_base::{Driven, Trouble, drive, new_buffer, read_piece};
 use format_csv::skip_mark;
@@ -23,7 +25,8 @@ use wb_base::Exchanged;
 ///
 /// If the bytes of the input are known, those of the output are known too: the lines of all its
 /// records, or of those before the failure. No record that is written has more bytes than the
-/// settings allow.
+/// settings allow. Without an option for what is written these are the records of RFC 4180, as
+/// `format_csv` reads and writes them (clause `plain`, by [`comma_law`](crate::laws::comma_law)).
 pub fn copy_records<R: Read, W: Write>(
     alloc: Global,
     settings: Settings,
@@ -34,7 +37,10 @@ pub fn copy_records<R: Read, W: Write>(
         CopiesInput settings bytes (W.contents output.old) (W.contents output.new))) }
     ensures failed { IfErr result (λ failure. IfSome (R.remaining input.old) (λ bytes.
         StopsInput settings bytes failure (W.contents output.old) (W.contents output.new))) }
+    ensures plain { IsPlain settings → OnOk result (IfSome (R.remaining input.old) (λ bytes.
+        CopiesPlain bytes (W.contents output.old) (W.contents output.new))) }
 {
+    comma_law();
     let mut exchanged = Exchanged {
         inner: input,
         one: b',',

@@ -10,5 +10,6 @@ pub mod InputLemmas
 pub mod BlankLemmas
 pub mod LiningLemmas
 pub mod ValueLemmas
+pub mod LimitLemmas
 pub mod FlushLemmas
 pub mod FeedLemmas

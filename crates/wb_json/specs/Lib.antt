@@ -5,5 +5,6 @@ pub mod Windows
 pub mod Faults
 pub mod Taking
 pub mod Texts
+pub mod Limiting
 pub mod Printing
 pub mod Whole

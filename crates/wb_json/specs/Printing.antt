@@ -2,6 +2,7 @@
 use Rattle.std.specs.Prelude.{◌≡◌, ℕ, Bool, true, false, List, [], ◌∷◌, ◌++◌, length, Option, None, Result, Ok, Err, ◌⊎◌}
 use Rattle.std.specs.Io.KnownBytes.{Appends}
 use Rattle.format_json_events.specs.Reading.{EventState, HasGiven, KeepsLimits}
+use Rattle.format_json_events.specs.Lengths.{IsShortTo, KeepsShort}
 use Rattle.format_json_events.specs.declared.event_reader.Event.{Event}
 use Rattle.format_json_events.specs.declared.event_reader.Event.TheVariants as event
 use Rattle.wb_json.specs.Paths.{Place, at_root, moved_by}
@@ -37,12 +38,14 @@ reached s events = moved_by at_root (opening s ++ events)
 -- ---- A text
 
 -- of an input the program has read these bytes before a text, with these events, and these bytes of
--- the text, of which the reader has given these events and may give more
+-- the text, of which the reader has given these events and may give more; no token of them is too
+-- long
 pub record Follows (p : Printing) (head text : List ℕ) (earlier events : List Event) : Type 0 where
   pub given : HasGiven p.reader text events
   pub going : p.reader.stopped ≡ None
   pub goes_on : p.reader.tokens.ended ≡ false
   pub limit : p.reader.text.depth ≡ p.settings.depth
+  pub short : IsShortTo p.settings.limit p.reader.tokens text
   pub path : p.path ≡ reached p.settings (earlier ++ events)
   pub window : IsWindow (head ++ text) p.window
   pub start : p.window.start ≡ length head
@@ -54,20 +57,21 @@ IsBegun p = (head : List ℕ) × ((text : List ℕ) × ((earlier : List Event)
 
 -- a reader with the limits of the first has given these events of the text and more, of which the
 -- lines were written from this place on, and it stops there, as the failure says of the input
-pub record Breaks (limits : EventState) (layout : Layout) (place : Place) (head text : List ℕ) (before : List Event) (failure : Failure) (held now : Option (List ℕ)) : Type 0 where
+pub record Breaks (limits : EventState) (s : Settings) (place : Place) (head text : List ℕ) (before : List Event) (failure : Failure) (held now : Option (List ℕ)) : Type 0 where
   pub reader : EventState
   pub more : List Event
   pub given : HasGiven reader text (before ++ more)
   pub going : reader.stopped ≡ None
   pub keeps : KeepsLimits limits reader
-  pub wrote : Appends held now (lines_at layout place more)
-  pub told : IsFailureOf (head ++ text) (length head) reader failure
+  pub wrote : Appends held now (lines_at s.layout place more)
+  pub told : IsFailureOf s.limit (head ++ text) (length head) reader failure
 
 -- nothing of the input was lost, and the reader may go on
 pub record KeepsAll (old new : Printing) : Type 0 where
   pub settings : new.settings ≡ old.settings
   pub begun : new.begun ≡ old.begun
   pub limits : KeepsLimits old.reader new.reader
+  pub short : KeepsShort old.settings.limit old.reader new.reader
   pub going : new.reader.stopped ≡ None
   pub start : new.window.start ≡ old.window.start
   pub window : (input : List ℕ) → IsWindow input old.window → IsWindow input new.window
@@ -77,7 +81,7 @@ abbrev pub BreaksOn : Printing → Failure → Option (List ℕ) → Option (Lis
 BreaksOn old failure held now = IsOfText failure → (head text : List ℕ) (before : List Event)
     → IsWindow (head ++ text) old.window → old.window.start ≡ length head
     → HasGiven old.reader text before
-    → Breaks old.reader old.settings.layout old.path head text before failure held now
+    → Breaks old.reader old.settings old.path head text before failure held now
 
 -- no matter what was read, the program has read a part of the text more, of which the reader has
 -- given more events, and their lines were written
@@ -92,13 +96,13 @@ abbrev pub FailsOn : Printing → List ℕ → EventState → Failure → Option
     → Type 0
 FailsOn old part limits failure held now = IsOfText failure → (head text : List ℕ)
     (earlier events : List Event) → Follows old head text earlier events
-    → Breaks limits old.settings.layout old.path head (text ++ part) events failure held now
+    → Breaks limits old.settings old.path head (text ++ part) events failure held now
 
 -- no matter what was read, the text is whole, and the lines of its last events were written
 abbrev pub EndsText : Printing → Printing → Option (List ℕ) → Option (List ℕ) → Type 0
 EndsText old new held now = (head text : List ℕ) (earlier events : List Event)
     → Follows old head text earlier events → (more : List Event)
-    × (IsText old.settings.depth text (events ++ more)
+    × (IsText old.settings text (events ++ more)
     × (new.path ≡ reached old.settings (earlier ++ (events ++ more)))
     × IsWindow (head ++ text) new.window
     × Appends held now (lines_at old.settings.layout old.path more))
@@ -121,7 +125,7 @@ pub record Prints (p : Printing) (input : List ℕ) (held now : Option (List ℕ
   pub events : List Event
   pub follows : Follows p head text earlier events
   pub splits : input ≡ head ++ text
-  pub before : IsBefore p.settings.by_lines p.settings.depth head earlier
+  pub before : IsBefore p.settings.by_lines p.settings head earlier
   pub within : IsWithin p.settings.by_lines text
   pub fresh : p.settings.by_lines ≡ true → p.begun ≡ false → (text ≡ []) × (events ≡ [])
   pub wrote : Appends held now (written p.settings (earlier ++ events))
@@ -129,7 +133,7 @@ pub record Prints (p : Printing) (input : List ℕ) (held now : Option (List ℕ
 -- the whole input has these events, and their lines were written
 abbrev pub PrintsAll : Settings → List ℕ → Option (List ℕ) → Option (List ℕ) → Type 0
 PrintsAll s input held now = (events : List Event)
-    × (InputHas s.by_lines s.depth input events × Appends held now (written s events))
+    × (InputHas s.by_lines s input events × Appends held now (written s events))
 
 -- before a text of the input stand these bytes, with these events; a reader has given these events
 -- of a front of the text, or of all of it, and read no more; their lines were written; and the
@@ -137,7 +141,7 @@ PrintsAll s input held now = (events : List Event)
 pub record PrintsFront (s : Settings) (input : List ℕ) (failure : Failure) (held now : Option (List ℕ)) : Type 0 where
   pub head : List ℕ
   pub earlier : List Event
-  pub before : IsBefore s.by_lines s.depth head earlier
+  pub before : IsBefore s.by_lines s head earlier
   pub front : List ℕ
   pub rest : List ℕ
   pub splits : input ≡ head ++ (front ++ rest)
@@ -149,7 +153,7 @@ pub record PrintsFront (s : Settings) (input : List ℕ) (failure : Failure) (he
   pub going : reader.stopped ≡ None
   pub ends : reader.tokens.ended ≡ true → IsAfter s.by_lines rest
   pub wrote : Appends held now (written s (earlier ++ events))
-  pub told : IsFailureOf input (length head) reader failure
+  pub told : IsFailureOf s.limit input (length head) reader failure
 
 -- a failure that is one of the text is one of the input, after some events of it
 abbrev pub PrintsUntil : Settings → List ℕ → Failure → Option (List ℕ) → Option (List ℕ) → Type 0

@@ -5,7 +5,7 @@ use Rattle.format_json.specs.Documents.{IsDocument, IsDamage}
 use Rattle.format_json_events.specs.ValueEvents.{events_of}
 use Rattle.format_json.specs.declared.value.Value.{Value}
 use Rattle.format_json.specs.declared.reading.Damage.{Damage}
-use Rattle.wb_json.specs.Failures.{IsOfText}
+use Rattle.wb_json.specs.Failures.{IsNoText}
 use Rattle.wb_json.specs.Printing.{written}
 use Rattle.wb_json.specs.declared.settings.Settings.{Settings}
 use Rattle.wb_json.specs.declared.failure.Failure.{Failure}
@@ -16,7 +16,7 @@ pub record PrintsValue (s : Settings) (input : List ℕ) (held now : Option (Lis
   pub lines : (value : Value) → IsDocument s.depth input value
       → Appends held now (written s (events_of value))
 
--- a failure that is one of the text comes of no input that is a value
+-- a failure that says that a text is none comes of no input that is a value
 abbrev pub IsOfNoValue : ℕ → List ℕ → Failure → Type 0
 IsOfNoValue depth input failure =
-    IsOfText failure → (value : Value) → ¬ (IsDocument depth input value)
+    IsNoText failure → (value : Value) → ¬ (IsDocument depth input value)

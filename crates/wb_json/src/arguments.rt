@@ -15,6 +15,7 @@ const EXAMPLES: &str = "Examples:
   wb-json --lines log.ndjson        reads each line as a text of its own
   wb-json --values page.json        writes the text without blanks, on one line
   wb-json --check page.json         only says whether the text is JSON, and where it is not
+  wb-json --limit 4096 page.json    stops at a token of more than 4096 bytes
 
 The status is 0 for a sound text; 2 for one that is not, and for faulty arguments; 3 if memory was
 refused; 4 if reading or writing failed.";
@@ -48,6 +49,11 @@ fn command<'a>(alloc: Global) -> Result<Command<'a>, AllocError> {
         .value_name("N")
         .value_parser(clap::value_parser!(usize))
         .help("Within how many arrays and objects a value may stand, 128 otherwise");
+    let limit = Arg::new(alloc, "limit")
+        .long("limit")
+        .value_name("N")
+        .value_parser(clap::value_parser!(usize))
+        .help("Stop at a string, a number or another token of more than N bytes");
     Command::new(alloc, NAME)
         .about(ABOUT)
         .after_help(EXAMPLES)
@@ -56,7 +62,8 @@ fn command<'a>(alloc: Global) -> Result<Command<'a>, AllocError> {
         .arg(lines)?
         .arg(values)?
         .arg(check)?
-        .arg(depth)
+        .arg(depth)?
+        .arg(limit)
 }
 
 /// Returns what the words of the command line say, or what is to be printed in place of that: for
@@ -66,15 +73,22 @@ pub fn matches_of<'a>(alloc: Global, words: &'a [String]) -> Result<ArgMatches<'
     command.try_get_matches_from(words)
 }
 
-/// Returns the settings that the arguments say.
-pub fn settings_of(matches: &ArgMatches<'_>) -> Settings {
-    Settings {
+/// Returns the settings that the arguments say, or `None` if no token may have a byte.
+pub fn settings_of(matches: &ArgMatches<'_>) -> Option<Settings> {
+    Some(Settings {
         layout: layout_of(matches),
         by_lines: matches.get_flag("lines"),
-        depth: match matches.get_one::<usize>("depth") {
-            Some(depth) => depth,
-            None => DEPTH,
-        },
+        depth: matches.get_one::<usize>("depth").unwrap_or(DEPTH),
+        limit: limit_of(matches)?,
+    })
+}
+
+// Returns how many bytes a token may have, unless that is 0.
+fn limit_of(matches: &ArgMatches<'_>) -> Option<usize> {
+    match matches.get_one::<usize>("limit") {
+        Some(0) => None,
+        Some(limit) => Some(limit),
+        None => Some(usize::MAX),
     }
 }
 

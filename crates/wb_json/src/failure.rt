@@ -22,13 +22,15 @@ pub enum Fault {
     TooDeep,
     /// The input ends before the text does
     EndsEarly,
+    /// A token has more bytes than this, the most that one may have
+    TooLong(usize),
 }
 
 /// The reason why the program ends with a status other than 0. Its text is what is wrong, without
 /// the place.
 #[derive(Debug, Drop)]
 pub enum Failure {
-    /// A text is no JSON, or too deep
+    /// A text is no JSON, or too deep, or a token of it is too long
     Faulty {
         /// Where it is
         position: Position,
@@ -78,6 +80,7 @@ impl fmt::Display for Fault {
             Fault::Unexpected => write!(f, "a token that may not stand here"),
             Fault::TooDeep => write!(f, "a value within too many arrays and objects"),
             Fault::EndsEarly => write!(f, "the input ends before the text does"),
+            Fault::TooLong(limit) => write!(f, "the token has more than {limit} bytes"),
         }
     }
 }

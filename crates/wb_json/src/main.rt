@@ -5,7 +5,7 @@
 //! text is written without blanks on one line, and with `--check` nothing is written. With
 //! `--lines` each line is a text of its own, and an element of one array; blank lines are passed
 //! over. `--depth N` limits within how many arrays and objects a value may stand, which are 128 at
-//! most otherwise.
+//! most otherwise, and `--limit N` how many bytes a token may have.
 //!
 //! A path begins with `json`. A name that is an identifier follows a point, any other name is a
 //! string in brackets, and so is the index of an element, counted from 0. Strings are written with
@@ -13,12 +13,13 @@
 //! text.
 //!
 //! The input is read in pieces, and a value is written as soon as its piece has been read. So the
-//! longest token, the path and one piece bound what is kept, however long the input is.
+//! longest token, the path and one piece bound what is kept, however long the input is; `--limit`
+//! bounds the first of these.
 //!
 //! The exit status is 0, also if nothing reads the output any more; 2 if a text is no JSON, is too
-//! deep or ends early, and for arguments that are none; 3 if memory was refused; and 4 if reading
-//! or writing failed. The values before a failure are written, and standard error says what is
-//! wrong, and where.
+//! deep or ends early, if a token is too long, and for arguments that are none; 3 if memory was
+//! refused; and 4 if reading or writing failed. The values before a failure are written, and
+//! standard error says what is wrong, and where.
 #![tactic(auto)]
 
 mod arguments;
@@ -58,14 +59,10 @@ fn main(rt: HostRuntime) -> ExitCode {
 // Does what the words of the command line say, and returns the status.
 fn run(rt: &HostRuntime, words: &[String]) -> ExitCode {
     match matches_of(rt.alloc(), words) {
-        Ok(matches) => {
-            let settings = settings_of(&matches);
-            match matches.get_str("FILE") {
-                None => print_input(rt, settings),
-                Some("-") => print_input(rt, settings),
-                Some(name) => status_of(rt, name, print_file(rt, name, settings)),
-            }
-        }
+        Ok(matches) => match settings_of(&matches) {
+            Some(settings) => print_named(rt, matches.get_str("FILE"), settings),
+            None => refuse(rt, "a token has at least 1 byte"),
+        },
         Err(error) => match error.kind() {
             ErrorKind::OutOfMemory => out_of_memory(rt),
             _ => {
@@ -84,6 +81,21 @@ fn out_of_memory(rt: &HostRuntime) -> ExitCode {
         "<arguments>",
         Err(Failure::Stopped(Trouble::OutOfMemory)),
     )
+}
+
+// Says what is wrong with the arguments, and returns the status.
+fn refuse(rt: &HostRuntime, what: &str) -> ExitCode {
+    let _ = eprintln!(rt; "{NAME}: {what}");
+    ExitCode::from(2)
+}
+
+// Prints the file of this name, or standard input, and returns the status.
+fn print_named(rt: &HostRuntime, name: Option<&str>, settings: Settings) -> ExitCode {
+    match name {
+        None => print_input(rt, settings),
+        Some("-") => print_input(rt, settings),
+        Some(name) => status_of(rt, name, print_file(rt, name, settings)),
+    }
 }
 
 // Prints standard input, and returns the status.

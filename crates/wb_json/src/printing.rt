@@ -112,7 +112,7 @@ impl Printing {
             (W.contents output.old) (W.contents output.new)) }
     {
         match take_events(
-            self.settings.layout,
+            self.settings,
             &mut self.reader,
             &mut self.path,
             &mut self.text,
@@ -203,6 +203,8 @@ impl Printing {
             return Err(failure);
         }
         self.window.begin_text();
+        // However many they are, no more of them are kept than a line shows.
+        self.window.drop_before(0);
         Ok(())
     }
 

@@ -1,6 +1,7 @@
 //! Printing the events of an input.
 
 ghost use Rattle.std.specs.Prelude.{◌≡◌, false, OnOk, IfErr, IfSome};
+ghost use Rattle.wb_json.specs.Limiting.{IsShortInput};
 ghost use Rattle.wb_json.specs.Printing.{PrintsAll, PrintsUntil};
 ghost use Rattle.wb_json.specs.Whole.{PrintsValue, IsOfNoValue};
 
@@ -18,7 +19,9 @@ use std::io::{Read, Write};
 /// If the bytes of the input are known, those of the output are known too: what is written of all
 /// its events, or of those before the failure, which has the line and column of its place in the
 /// whole input. If the input is a value within the limit on depth, the events are those of the
-/// value, and no failure is one of the text.
+/// value, and no failure is one of the text, but that a token is too long. No token that was read
+/// has more bytes than the settings allow; the first that has more stops the reader as any other
+/// fault does, where it begins.
 pub fn print_events<R: Read, W: Write>(
     alloc: Global,
     settings: Settings,
@@ -29,6 +32,8 @@ pub fn print_events<R: Read, W: Write>(
         (λ bytes. PrintsValue settings bytes (W.contents output.old) (W.contents output.new))) }
     ensures none { settings.by_lines ≡ false → IfErr result (λ failure.
         IfSome (R.remaining input.old) (λ bytes. IsOfNoValue settings.depth bytes failure)) }
+    ensures within { OnOk result (IfSome (R.remaining input.old) (λ bytes.
+        IsShortInput settings.by_lines settings.limit bytes)) }
     ensures printed { OnOk result (IfSome (R.remaining input.old) (λ bytes.
         PrintsAll settings bytes (W.contents output.old) (W.contents output.new))) }
     ensures failed { IfErr result (λ failure. IfSome (R.remaining input.old) (λ bytes.

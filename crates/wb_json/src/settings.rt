@@ -20,4 +20,6 @@ pub struct Settings {
     pub by_lines: bool,
     /// Within how many arrays and objects a value may stand
     pub depth: usize,
+    /// The most bytes of a token
+    pub limit: usize,
 }

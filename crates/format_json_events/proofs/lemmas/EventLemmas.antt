@@ -12,9 +12,7 @@ use Rattle.format_json_events.specs.declared.event_reader.Event.{Event}
 use Rattle.format_json_events.specs.declared.event_reader.EventError.{EventError}
 use Rattle.format_json_events.specs.declared.event_reader.Coming.{Coming}
 use Rattle.format_json_events.specs.declared.event_reader.Coming.TheVariants as coming
-use Rattle.format_json_events.specs.declared.event_reader.Step.TheVariants as step
 use Rattle.format_json_events.specs.declared.syntax.Taken.{Taken}
-use Rattle.format_json_events.specs.declared.syntax.Taken.TheVariants as taken
 use Rattle.format_json_events.specs.declared.turns.Misplaced.{Misplaced}
 use Rattle.format_json_events.specs.declared.turns.Turn.{Turn}
 use Rattle.format_json_events.specs.declared.turns.Turn.TheVariants.{Opens, Closes, Gives, Names, Passes, Ends, Refuses}

@@ -3,7 +3,7 @@ use Rattle.std.proofs.Common.{ℕ, ◌+◌, List, ◌++◌, sym, subst}
 use Rattle.std.specs.Prelude.{Option}
 use Rattle.format_json_events.specs.Reading.{EventState}
 use Rattle.wb_json.specs.Windows.{IsWindow, Tells}
-use Rattle.wb_json.specs.Faults.{StopsAt, error_of, IsFailureOf}
+use Rattle.wb_json.specs.Faults.{FindsFault, IsFailureOf}
 use Rattle.wb_json.specs.Taking.{StopsAfter}
 use Rattle.wb_json.specs.Printing.{BreaksOn}
 use Rattle.wb_json.specs.declared.failure.Fault.{Fault}
@@ -13,17 +13,17 @@ use Rattle.wb_json.specs.declared.printing.Printing.{Printing}
 use Rattle.wb_json.proofs.lemmas.WindowLemmas.{placed-longer}
 
 -- a failure that tells of the fault of a reader is one of the input
-told-of : (input : List ℕ) (start place : ℕ) (r : EventState) (fault : Fault) (failure : Failure)
-    → StopsAt r (error_of fault place) → Tells input start place fault failure
-    → IsFailureOf input start r failure
-told-of input start place r fault (Faulty position is excerpt) stops (same, placed) =
-    (place, (subst (λ f. StopsAt r (error_of f place)) (sym same) stops, placed))
-told-of input start place r fault (Stopped trouble) stops told = tt
+told-of : (limit : ℕ) (input : List ℕ) (start place : ℕ) (r : EventState) (fault : Fault)
+    (failure : Failure) → FindsFault limit r fault place → Tells input start place fault failure
+    → IsFailureOf limit input start r failure
+told-of limit input start place r fault (Faulty position is excerpt) finds (same, placed) =
+    (place, (subst (λ f. FindsFault limit r f place) (sym same) finds, placed))
+told-of limit input start place r fault (Stopped trouble) finds told = tt
 
 -- where a reader stops after some events, the failure that tells of its fault is one of the input
 pub stops-breaks : (old : Printing) (place : ℕ) (fault : Fault) (failure : Failure)
     (held now : Option (List ℕ))
-    → StopsAfter old.settings.layout old.reader old.path (error_of fault place) held now
+    → StopsAfter old.settings old.reader old.path fault place held now
     → ((input : List ℕ) → IsWindow input old.window → Tells input old.window.start place fault failure)
     → BreaksOn old failure held now
 stops-breaks old place fault failure held now (r, (there, (prints, going, keeps, stops))) tells is head text before window start given =
@@ -35,13 +35,14 @@ stops-breaks old place fault failure held now (r, (there, (prints, going, keeps,
       going = going;
       keeps = keeps;
       wrote = more.1.2;
-      told = subst (λ n. IsFailureOf (head ++ text) n r failure) start
-          (told-of (head ++ text) old.window.start place r fault failure stops (tells (head ++ text) window));
+      told = subst (λ n. IsFailureOf old.settings.limit (head ++ text) n r failure) start
+          (told-of old.settings.limit (head ++ text) old.window.start place r fault failure stops (tells (head ++ text) window));
     }
 
 -- a failure of a front of the input is one of the input
-pub failure-longer : (input rest : List ℕ) (start : ℕ) (r : EventState) (failure : Failure)
-    → IsFailureOf input start r failure → IsFailureOf (input ++ rest) start r failure
-failure-longer input rest start r (Faulty position fault excerpt) (place, (stops, placed)) =
-    (place, (stops, placed-longer input rest (start + place) position excerpt placed))
-failure-longer input rest start r (Stopped trouble) h = tt
+pub failure-longer : (limit : ℕ) (input rest : List ℕ) (start : ℕ) (r : EventState)
+    (failure : Failure)
+    → IsFailureOf limit input start r failure → IsFailureOf limit (input ++ rest) start r failure
+failure-longer limit input rest start r (Faulty position fault excerpt) (place, (finds, placed)) =
+    (place, (finds, placed-longer input rest (start + place) position excerpt placed))
+failure-longer limit input rest start r (Stopped trouble) h = tt

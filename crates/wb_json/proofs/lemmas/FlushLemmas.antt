@@ -1,8 +1,10 @@
 -- What is said of an answer, once the output is flushed, and of a printer that begins.
-use Rattle.std.proofs.Common.{◌≡◌, ℕ, Bool, true, false, List, [], ◌++◌, refl, ap, ◌∙◌, subst, inl, inr}
+use Rattle.std.proofs.Common.{◌≡◌, ℕ, Bool, true, false, List, [], ◌++◌, refl, ap, sym, ◌∙◌, subst, inl, inr}
 use Rattle.std.specs.Prelude.{Option, None, Some, Result, Ok, Err, OnOk, IfErr}
 use Rattle.std.specs.Io.KnownBytes.{Appends, Keeps}
 use Rattle.format_json_events.specs.Reading.{EventState, new_reader, HasGiven}
+use Rattle.format_json_events.specs.Lengths.{IsShortTo}
+use Rattle.format_json_events.proofs.lemmas.LengthLemmas.{short-start}
 use Rattle.wb_json.specs.Failures.{IsOfText}
 use Rattle.wb_json.specs.Windows.{IsWindow}
 use Rattle.wb_json.specs.Texts.{IsBefore}
@@ -77,9 +79,9 @@ flushed-err answer (Err failure) (inr none) never h = never failure none
 -- ---- The start
 
 -- before an input stands nothing
-before-start : (by_lines : Bool) (depth : ℕ) → IsBefore by_lines depth [] []
-before-start false depth = (refl, refl)
-before-start true depth = ([], ([], (refl, tt, refl, refl, refl)))
+before-start : (by_lines : Bool) (s : Settings) → IsBefore by_lines s [] []
+before-start false s = (refl, refl)
+before-start true s = ([], ([], (refl, tt, refl, refl, refl)))
 
 -- a printer that begins
 pub prints-start : (p : Printing) (held now : Option (List ℕ))
@@ -96,12 +98,13 @@ prints-start p held now reader read path window start wrote = record {
     going = ap (λ (r : EventState). r.stopped) reader;
     goes_on = ap (λ (r : EventState). r.tokens.ended) reader;
     limit = ap (λ (r : EventState). r.text.depth) reader;
+    short = subst (λ (r : EventState). IsShortTo p.settings.limit r.tokens []) (sym reader) (short-start p.settings.limit);
     path = path;
     window = window;
     start = start;
   };
   splits = refl;
-  before = before-start p.settings.by_lines p.settings.depth;
+  before = before-start p.settings.by_lines p.settings;
   within = λ e. refl;
   fresh = λ e f. (refl, refl);
   wrote = wrote;

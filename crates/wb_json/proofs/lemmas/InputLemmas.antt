@@ -92,7 +92,7 @@ prints-part old new part held now settings begun line is on input had h =
       events = h.events ++ more.0;
       follows = more.1.0;
       splits = ap (λ xs. xs ++ part) h.splits ∙ append_assoc h.head h.text part;
-      before = subst (λ (s : Settings). IsBefore s.by_lines s.depth h.head h.earlier) (sym settings) h.before;
+      before = subst (λ (s : Settings). IsBefore s.by_lines s h.head h.earlier) (sym settings) h.before;
       within = subst (λ (s : Settings). IsWithin s.by_lines (h.text ++ part)) (sym settings) (within-more old.settings.by_lines h.text part h.within line);
       fresh = λ e f. absurd (no-both old.begun (is (sym (ap (λ (s : Settings). s.by_lines) settings) ∙ e)) (sym begun ∙ f));
       wrote = subst (λ (s : Settings). Appends had now (written s (h.earlier ++ (h.events ++ more.0)))) (sym settings)
@@ -126,9 +126,9 @@ fails-input old part rest limits failure held now had input deep leaves line fai
       going = b.going;
       ends = λ end. leaves (sym b.keeps.1 ∙ end);
       wrote = wrote-more old.settings old.path had held now h.earlier h.events b.more h.wrote h.follows.path b.wrote;
-      told = subst (λ xs. IsFailureOf xs (length h.head) b.reader failure)
+      told = subst (λ xs. IsFailureOf old.settings.limit xs (length h.head) b.reader failure)
           (append_assoc h.head (h.text ++ part) rest ∙ sym splits)
-          (failure-longer (h.head ++ (h.text ++ part)) rest (length h.head) b.reader failure b.told);
+          (failure-longer old.settings.limit (h.head ++ (h.text ++ part)) rest (length h.head) b.reader failure b.told);
     }
 
 -- a part fails so while more may follow
@@ -146,15 +146,15 @@ pub tells-text : (old new : Printing) (held now had : Option (List ℕ)) (input 
     → IfErr result (λ failure. FailsOn old [] (events_ended old.reader) failure held now)
     → Prints old input had held → TellsInput old.settings input had now result
 tells-text old new held now had input (Ok done) plain ends fails h =
-    let before = subst (λ b. IsBefore b old.settings.depth h.head h.earlier) plain h.before in
+    let before = subst (λ b. IsBefore b old.settings h.head h.earlier) plain h.before in
     let e = ends h.head h.text h.earlier h.events h.follows in
     let is : input ≡ h.text = h.splits ∙ ap (λ xs. xs ++ h.text) before.0 in
     let all : h.earlier ++ (h.events ++ e.0) ≡ h.events ++ e.0 = ap (λ es. es ++ (h.events ++ e.0)) before.1 in
-    let text = subst (λ es. IsText old.settings.depth h.text es) (sym all) e.1.0 in
-    let whole = subst (λ xs. IsText old.settings.depth xs (h.earlier ++ (h.events ++ e.0))) (sym is) text in (
+    let text = subst (λ es. IsText old.settings h.text es) (sym all) e.1.0 in
+    let whole = subst (λ xs. IsText old.settings xs (h.earlier ++ (h.events ++ e.0))) (sym is) text in (
       h.earlier ++ (h.events ++ e.0),
       (
-        subst (λ b. InputHas b old.settings.depth input (h.earlier ++ (h.events ++ e.0))) (sym plain) whole,
+        subst (λ b. InputHas b old.settings input (h.earlier ++ (h.events ++ e.0))) (sym plain) whole,
         wrote-more old.settings old.path had held now h.earlier h.events e.0 h.wrote h.follows.path e.1.3,
       ),
     )

@@ -5,6 +5,8 @@ use Rattle.std.specs.Io.KnownBytes.{Appends}
 use Rattle.std.proofs.lemmas.List.{take-append-drop}
 use Rattle.format_json.specs.Language.{after_blanks}
 use Rattle.format_json_events.specs.Reading.{EventState, new_reader, events_ended, HasGiven}
+use Rattle.format_json_events.specs.Lengths.{IsShortTo}
+use Rattle.format_json_events.proofs.lemmas.LengthLemmas.{short-start}
 use Rattle.format_json_events.specs.declared.event_reader.Event.{Event}
 use Rattle.wb_base.proofs.lemmas.RecentLemmas.{feeds-append}
 use Rattle.wb_json.specs.Failures.{IsOfText}
@@ -28,13 +30,13 @@ joined-more (first ∷ lines) line =
     ∙ sym (append_assoc (first ++ 10 ∷ []) (joined lines) (line ++ 10 ∷ []))
 
 -- the events of one more line
-have-more : (depth : ℕ) (lines : List (List ℕ)) (line : List ℕ) (before events : List Event)
-    → LinesHave depth lines before → LineHas depth line events
-    → LinesHave depth (lines ++ line ∷ []) (before ++ events)
-have-more depth [] line before events none has =
+have-more : (s : Settings) (lines : List (List ℕ)) (line : List ℕ) (before events : List Event)
+    → LinesHave s lines before → LineHas s line events
+    → LinesHave s (lines ++ line ∷ []) (before ++ events)
+have-more s [] line before events none has =
     (events, ([], (ap (λ es. es ++ events) none ∙ sym (append-nil events), has, refl)))
-have-more depth (first ∷ lines) line before events (of_first, (rest, (is, first_has, rest_have))) has =
-    (of_first, (rest ++ events, (ap (λ es. es ++ events) is ∙ append_assoc of_first rest events, first_has, have-more depth lines line rest events rest_have has)))
+have-more s (first ∷ lines) line before events (of_first, (rest, (is, first_has, rest_have))) has =
+    (of_first, (rest ++ events, (ap (λ es. es ++ events) is ∙ append_assoc of_first rest events, first_has, have-more s lines line rest events rest_have has)))
 
 -- all of one more
 all-more : (lines : List (List ℕ)) (line : List ℕ) → AreLines lines → IsLine line
@@ -82,9 +84,9 @@ module _ (old middle : Printing) (blanks : List ℕ) (held : Option (List ℕ))
       let given = subst (λ es. HasGiven old.reader [] es) none.1 (subst (λ xs. HasGiven old.reader xs h.events) none.0 h.follows.given) in
       let window = passes.window (h.head ++ h.text) h.follows.window in
       let all : (h.head ++ h.text) ++ blanks ≡ input ++ blanks = ap (λ xs. xs ++ blanks) (sym h.splits) in
-      let before = subst (λ b. IsBefore b old.settings.depth h.head h.earlier) lines h.before in
+      let before = subst (λ b. IsBefore b old.settings h.head h.earlier) lines h.before in
       let more = before.1.1 in
-      let now_before : IsBefore true old.settings.depth (input ++ blanks) h.earlier = (
+      let now_before : IsBefore true old.settings (input ++ blanks) h.earlier = (
         before.0,
         (
           before.1.0 ++ blanks,
@@ -108,14 +110,17 @@ module _ (old middle : Printing) (blanks : List ℕ) (held : Option (List ℕ))
           going = ap (λ (r : EventState). r.stopped) reader ∙ h.follows.going;
           goes_on = ap (λ (r : EventState). r.tokens.ended) reader ∙ h.follows.goes_on;
           limit = ap (λ (r : EventState). r.text.depth) reader ∙ h.follows.limit ∙ ap (λ (s : Settings). s.depth) (sym passes.settings);
+          short = subst (λ (s : Settings). IsShortTo s.limit middle.reader.tokens []) (sym passes.settings)
+              (subst (λ (r : EventState). IsShortTo old.settings.limit r.tokens []) (sym reader)
+              (subst (λ xs. IsShortTo old.settings.limit old.reader.tokens xs) none.0 h.follows.short));
           path = passes.path ∙ h.follows.path ∙ ap (reached old.settings) events
               ∙ ap (λ (s : Settings). reached s (h.earlier ++ [])) (sym passes.settings);
           window = subst (λ xs. IsWindow xs middle.window) (all ∙ sym (append-nil (input ++ blanks))) window.0;
           start = window.1 ∙ ap length all;
         };
         splits = sym (append-nil (input ++ blanks));
-        before = subst (λ (s : Settings). IsBefore s.by_lines s.depth (input ++ blanks) h.earlier) (sym passes.settings)
-            (subst (λ b. IsBefore b old.settings.depth (input ++ blanks) h.earlier) (sym lines) now_before);
+        before = subst (λ (s : Settings). IsBefore s.by_lines s (input ++ blanks) h.earlier) (sym passes.settings)
+            (subst (λ b. IsBefore b old.settings (input ++ blanks) h.earlier) (sym lines) now_before);
         within = λ e. refl;
         fresh = λ e f. (refl, refl);
         wrote = subst (λ (s : Settings). Appends had held (written s (h.earlier ++ []))) (sym passes.settings)
@@ -172,8 +177,8 @@ begins-next : (old new : Printing) (had now : Option (List ℕ)) (input : List �
     → old.settings.by_lines ≡ true → new.settings ≡ old.settings
     → new.reader ≡ new_reader old.settings.depth → HasGiven new.reader [] []
     → input ≡ (joined before ++ blanks) ++ text → AreLines before → IsLine (blanks ++ text)
-    → LinesHave old.settings.depth before earlier
-    → LineHas old.settings.depth (blanks ++ text) events
+    → LinesHave old.settings before earlier
+    → LineHas old.settings (blanks ++ text) events
     → new.path ≡ reached old.settings (earlier ++ events)
     → IsWindow (input ++ 10 ∷ []) new.window → new.window.start ≡ length (input ++ 10 ∷ [])
     → Appends had now (written old.settings (earlier ++ events))
@@ -186,9 +191,9 @@ begins-next old new had now input before blanks text earlier events lines settin
     ∙ sym (append-nil (joined (before ++ (blanks ++ text) ∷ []))) in
     let none_blank : IsBlank [] = refl in
     let none_line : IsLine [] = refl in
-    let is_before : IsBefore true old.settings.depth (input ++ 10 ∷ []) (earlier ++ events) = (
+    let is_before : IsBefore true old.settings (input ++ 10 ∷ []) (earlier ++ events) = (
       before ++ (blanks ++ text) ∷ [],
-      ([], (whole, all-more before (blanks ++ text) all line, none_line, none_blank, have-more old.settings.depth before (blanks ++ text) earlier events have has)),
+      ([], (whole, all-more before (blanks ++ text) all line, none_line, none_blank, have-more old.settings before (blanks ++ text) earlier events have has)),
     ) in
     record {
       head = input ++ 10 ∷ [];
@@ -200,14 +205,15 @@ begins-next old new had now input before blanks text earlier events lines settin
         going = ap (λ (r : EventState). r.stopped) reader;
         goes_on = ap (λ (r : EventState). r.tokens.ended) reader;
         limit = ap (λ (r : EventState). r.text.depth) reader ∙ ap (λ (s : Settings). s.depth) (sym settings);
+        short = subst (λ (r : EventState). IsShortTo new.settings.limit r.tokens []) (sym reader) (short-start new.settings.limit);
         path = path ∙ ap (reached old.settings) (sym (append-nil (earlier ++ events)))
             ∙ ap (λ (s : Settings). reached s ((earlier ++ events) ++ [])) (sym settings);
         window = subst (λ xs. IsWindow xs new.window) (sym (append-nil (input ++ 10 ∷ []))) window;
         start = start;
       };
       splits = sym (append-nil (input ++ 10 ∷ []));
-      before = subst (λ (s : Settings). IsBefore s.by_lines s.depth (input ++ 10 ∷ []) (earlier ++ events)) (sym settings)
-          (subst (λ b. IsBefore b old.settings.depth (input ++ 10 ∷ []) (earlier ++ events)) (sym lines) is_before);
+      before = subst (λ (s : Settings). IsBefore s.by_lines s (input ++ 10 ∷ []) (earlier ++ events)) (sym settings)
+          (subst (λ b. IsBefore b old.settings (input ++ 10 ∷ []) (earlier ++ events)) (sym lines) is_before);
       within = λ e. none_line;
       fresh = λ e f. (refl, refl);
       wrote = subst (λ (s : Settings). Appends had now (written s ((earlier ++ events) ++ []))) (sym settings)
@@ -228,7 +234,7 @@ pub ends-line : (old middle new : Printing) (held now : Option (List ℕ))
     → HasGiven new.reader [] [] → PrintsMore old (10 ∷ []) new held now
 ends-line old middle new held now lines same ends passes reader read input had h =
     let e = ends h.head h.text h.earlier h.events h.follows in
-    let before = subst (λ b. IsBefore b old.settings.depth h.head h.earlier) lines h.before in
+    let before = subst (λ b. IsBefore b old.settings h.head h.earlier) lines h.before in
     let facts = before.1.1 in
     let window = next-window middle new input h.head h.text passes h.splits e.1.2 in
     begins-next old new had now input before.0 before.1.0 h.text h.earlier (h.events ++ e.0) lines (passes.settings ∙ same)
@@ -241,7 +247,7 @@ ends-line old middle new held now lines same ends passes reader read input had h
 -- a line that is blank so far is blank
 blank-so-far : (old : Printing) (input : List ℕ) (had held : Option (List ℕ)) (blanks : List ℕ)
     (h : Prints old input had held) → old.settings.by_lines ≡ true → old.begun ≡ false
-    → IsBlank blanks → LineHas old.settings.depth (blanks ++ h.text) h.events
+    → IsBlank blanks → LineHas old.settings (blanks ++ h.text) h.events
 blank-so-far old input had held blanks h lines fresh blank =
     let none = h.fresh lines fresh in
     inl (subst IsBlank (sym (ap (λ xs. blanks ++ xs) none.0 ∙ append-nil blanks)) blank, none.1)
@@ -252,7 +258,7 @@ pub ends-blank : (old new : Printing) (held : Option (List ℕ))
     → PassesOver old (10 ∷ []) new → new.reader ≡ new_reader old.settings.depth
     → HasGiven new.reader [] [] → PrintsMore old (10 ∷ []) new held held
 ends-blank old new held lines fresh passes reader read input had h =
-    let before = subst (λ b. IsBefore b old.settings.depth h.head h.earlier) lines h.before in
+    let before = subst (λ b. IsBefore b old.settings h.head h.earlier) lines h.before in
     let facts = before.1.1 in
     let window = next-window old new input h.head h.text passes h.splits h.follows.window in
     begins-next old new had held input before.0 before.1.0 h.text h.earlier h.events lines passes.settings reader read
@@ -273,24 +279,24 @@ fails-line old failure held now lines fails input rest had h =
 -- the lines of an input, of which the last one has these events
 all-lines : (old : Printing) (input : List ℕ) (had held : Option (List ℕ))
     (h : Prints old input had held) (events : List Event) → old.settings.by_lines ≡ true
-    → ((blanks : List ℕ) → IsBlank blanks → LineHas old.settings.depth (blanks ++ h.text) events)
-    → InputHas old.settings.by_lines old.settings.depth input (h.earlier ++ events)
+    → ((blanks : List ℕ) → IsBlank blanks → LineHas old.settings (blanks ++ h.text) events)
+    → InputHas old.settings.by_lines old.settings input (h.earlier ++ events)
 all-lines old input had held h events lines has =
-    let before = subst (λ b. IsBefore b old.settings.depth h.head h.earlier) lines h.before in
+    let before = subst (λ b. IsBefore b old.settings h.head h.earlier) lines h.before in
     let facts = before.1.1 in
     let last = before.1.0 ++ h.text in
-    let found : InputHas true old.settings.depth input (h.earlier ++ events) = (
+    let found : InputHas true old.settings input (h.earlier ++ events) = (
       before.0,
       (
         last,
         (
           h.splits ∙ ap (λ xs. xs ++ h.text) facts.0 ∙ append_assoc (joined before.0) before.1.0 h.text,
           all-more before.0 last facts.1 (line-append before.1.0 h.text facts.2 (h.within lines)),
-          have-more old.settings.depth before.0 last h.earlier events facts.4 (has before.1.0 facts.3),
+          have-more old.settings before.0 last h.earlier events facts.4 (has before.1.0 facts.3),
         ),
       ),
     ) in
-    subst (λ b. InputHas b old.settings.depth input (h.earlier ++ events)) (sym lines) found
+    subst (λ b. InputHas b old.settings input (h.earlier ++ events)) (sym lines) found
 
 -- what the end of an input returns whose last line is blank
 pub tells-blank : (old : Printing) (held had : Option (List ℕ)) (input : List ℕ)

@@ -5,10 +5,13 @@ use Rattle.std.specs.Io.KnownBytes.{Appends}
 use Rattle.winnow_reader.specs.State.{fed_of}
 use Rattle.format_json_events.specs.Reading.{EventState, events_pushed, events_ended, HasGiven, GivesOn, GivesAlso, KeepsLimits, IsWhole}
 use Rattle.format_json_events.specs.declared.event_reader.Event.{Event}
+use Rattle.format_json_events.specs.Lengths.{IsShortTo, KeepsShort}
 use Rattle.format_json_events.proofs.lemmas.ReaderPlaceLemmas.{given-fed}
+use Rattle.format_json_events.proofs.lemmas.LengthLemmas.{short-pushed, short-ended, short-text}
 use Rattle.wb_json.specs.Paths.{Place, moved_by}
 use Rattle.wb_json.specs.Lines.{lines_at}
 use Rattle.wb_json.specs.Windows.{IsWindow}
+use Rattle.wb_json.specs.Faults.{IsFailureOf}
 use Rattle.wb_json.specs.Taking.{PrintsOn}
 use Rattle.wb_json.specs.Printing.{IsBegun, KeepsAll, BreaksOn, FollowsOn, FailsOn, EndsText, reached}
 use Rattle.wb_json.specs.declared.settings.Settings.{Settings}
@@ -53,6 +56,13 @@ module _ (old middle : Printing) (part : List ℕ) (held now : Option (List ℕ)
       ∙ sym (reached-more old.settings (earlier ++ events) more)
       ∙ ap (reached old.settings) (append_assoc earlier events more)
 
+  -- where short tokens lead from there
+  short-on : (new : Printing) → KeepsAll middle new → (text : List ℕ)
+      → IsShortTo old.settings.limit middle.reader.tokens text
+      → IsShortTo old.settings.limit new.reader.tokens text
+  short-on new keeps text h =
+      subst (λ (s : Settings). KeepsShort s.limit middle.reader new.reader) settings keeps.short text h
+
   pub follows-part : (new : Printing) → GivesAlso old.reader part middle.reader
       → middle.reader ≡ events_pushed old.reader part
       → ((input : List ℕ) → IsWindow input old.window → IsWindow (input ++ part) middle.window)
@@ -69,6 +79,10 @@ module _ (old middle : Printing) (part : List ℕ) (held now : Option (List ℕ)
             going = keeps.going;
             goes_on = keeps.limits.1 ∙ ap (λ (r : EventState). r.tokens.ended) state ∙ h.goes_on;
             limit = keeps.limits.0 ∙ ap (λ (r : EventState). r.text.depth) state ∙ h.limit ∙ ap (λ (s : Settings). s.depth) (sym same);
+            short = subst (λ (s : Settings). IsShortTo s.limit new.reader.tokens (text ++ part)) (sym same)
+                (short-on new keeps (text ++ part)
+                (subst (λ (r : EventState). IsShortTo old.settings.limit r.tokens (text ++ part)) (sym state)
+                (short-pushed old.settings.limit old.reader.tokens text part h.goes_on h.short)));
             path = leads-on new.path earlier events more.0 h.path more.1.1
                 ∙ ap (λ (s : Settings). reached s (earlier ++ (events ++ more.0))) (sym same);
             window = subst (λ xs. IsWindow xs new.window) (append_assoc head text part)
@@ -92,7 +106,7 @@ module _ (old middle : Printing) (part : List ℕ) (held now : Option (List ℕ)
         going = b.going;
         keeps = (b.keeps.0 ∙ keeps.0, b.keeps.1 ∙ keeps.1);
         wrote = lines-same b.more b.wrote;
-        told = b.told;
+        told = subst (λ (s : Settings). IsFailureOf s.limit (head ++ (text ++ part)) (length head) b.reader failure) settings b.told;
       }
 
   pub ends-text : (new : Printing) → GivesOn old.reader [] middle.reader
@@ -104,10 +118,13 @@ module _ (old middle : Printing) (part : List ℕ) (held now : Option (List ℕ)
   ends-text new gives state window keeps whole prints head text earlier events h =
       let given = subst (λ es. HasGiven middle.reader text es) (append-nil events) (gives text events h.given) in
       let more = prints text events given in
-      let ended = keeps.limits.1 ∙ ap (λ (r : EventState). r.tokens.ended) state in (
+      let ended = keeps.limits.1 ∙ ap (λ (r : EventState). r.tokens.ended) state in
+      let short = short-on new keeps text
+      (subst (λ (r : EventState). IsShortTo old.settings.limit r.tokens text) (sym state)
+      (short-ended old.settings.limit old.reader.tokens text h.short)) in (
         more.0,
         (
-          (new.reader, (keeps.limits.0 ∙ ap (λ (r : EventState). r.text.depth) state ∙ h.limit, more.1.0, (keeps.going, whole ended))),
+          (new.reader, (keeps.limits.0 ∙ ap (λ (r : EventState). r.text.depth) state ∙ h.limit, more.1.0, (keeps.going, whole ended), short-text old.settings.limit new.reader.tokens text (whole ended).0 short)),
           leads-on new.path earlier events more.0 h.path more.1.1,
           keeps.window (head ++ text) (window (head ++ text) h.window),
           lines-same more.0 more.1.2,

@@ -2,6 +2,7 @@
 use Rattle.std.proofs.Common.{◌≡◌, ℕ, Bool, true, false, List, [], ◌++◌, length, refl, ap, sym, ◌∙◌, subst, inl, inr, append-nil}
 use Rattle.std.specs.Prelude.{Option, None, Some, IfSome, Result, Ok, Err, OnOk, IfErr}
 use Rattle.std.specs.Io.KnownBytes.{Appends}
+use Rattle.std.proofs.lemmas.Option.{same_Some}
 use Rattle.winnow_reader.specs.Reading.{MayFollow}
 use Rattle.format_json.specs.Documents.{IsDocument, IsDamage}
 use Rattle.format_json_events.specs.Reading.{EventState, HasGiven, GivesOn, IsWhole, IsNext}
@@ -10,14 +11,14 @@ use Rattle.format_json.specs.declared.value.Value.{Value}
 use Rattle.format_json.specs.declared.reading.Damage.{Damage}
 use Rattle.format_json_events.specs.declared.event_reader.Event.{Event}
 use Rattle.format_json_events.specs.declared.event_reader.EventError.{EventError}
-use Rattle.wb_json.specs.Failures.{IsOfText}
+use Rattle.wb_json.specs.Failures.{IsOfText, IsNoText}
 use Rattle.wb_json.specs.Faults.{StopsAt, error_of, IsFailureOf}
 use Rattle.wb_json.specs.Texts.{IsBefore, IsAfter, InputHas}
 use Rattle.wb_json.specs.Printing.{PrintsAll, PrintsFront, PrintsUntil}
 use Rattle.wb_json.specs.Whole.{PrintsValue, IsOfNoValue}
 use Rattle.wb_json.specs.declared.settings.Settings.{Settings}
 use Rattle.wb_json.specs.declared.failure.Fault.{Fault}
-use Rattle.wb_json.specs.declared.failure.Fault.TheVariants.{Damaged, Unexpected, TooDeep, EndsEarly}
+use Rattle.wb_json.specs.declared.failure.Fault.TheVariants.{Damaged, Unexpected, TooDeep, EndsEarly, TooLong}
 use Rattle.wb_json.specs.declared.failure.Failure.{Failure}
 use Rattle.wb_json.specs.declared.failure.Failure.TheVariants.{Faulty, Stopped}
 use Rattle.wb_json.proofs.lemmas.PlaceLemmas.{same-lines}
@@ -63,11 +64,18 @@ next-of r e going (inr (new, misplaced)) =
     (record { tokens = new.tokens; text = r.text; stopped = Some e }, (r, ((gives-same r, going, (refl, refl)), inr (refl, refl, misplaced))))
 
 -- an error of a fault is no refusal
-no-refusal : (fault : Fault) (place : ℕ) → IsRefusal (error_of fault place) → ⊥
-no-refusal (Damaged cause) place h = h
-no-refusal Unexpected place h = h
-no-refusal TooDeep place h = h
-no-refusal EndsEarly place h = h
+no-refusal : (fault : Fault) (place : ℕ) (e : EventError) → error_of fault place ≡ Some e
+    → IsRefusal e → ⊥
+no-refusal (Damaged cause) place e is h = subst IsRefusal (sym (same_Some _ _ is)) h
+no-refusal Unexpected place e is h = subst IsRefusal (sym (same_Some _ _ is)) h
+no-refusal TooDeep place e is h = subst IsRefusal (sym (same_Some _ _ is)) h
+no-refusal EndsEarly place e is h = subst IsRefusal (sym (same_Some _ _ is)) h
+no-refusal (TooLong limit) place e is h = cc is
+
+-- a failure that says that a text is none is one of the text
+no-text : (failure : Failure) → IsNoText failure → IsOfText failure
+no-text (Faulty position fault excerpt) is = tt
+no-text (Stopped trouble) is = is
 
 -- ---- The input
 
@@ -75,7 +83,7 @@ no-refusal EndsEarly place h = h
 all-value : GivesAll → IsNoDamage → (s : Settings) (input : List ℕ) (held now : Option (List ℕ))
     → s.by_lines ≡ false → PrintsAll s input held now → PrintsValue s input held now
 all-value gives clean s input held now plain (events, (has, wrote)) =
-    let text = subst (λ b. InputHas b s.depth input events) plain has in
+    let text = subst (λ b. InputHas b s input events) plain has in
     let r = text.0 in
     let limit = text.1.0 in
     let given = text.1.1 in
@@ -97,12 +105,12 @@ after-none by_lines rest plain (inr (lines, more)) = absurd (cc)
 -- where a failure is one of the text, the input is no value
 front-none : FailsNever → (s : Settings) (input : List ℕ) (failure : Failure)
     (held now : Option (List ℕ)) → s.by_lines ≡ false → PrintsFront s input failure held now
-    → IsOfText failure → (value : Value) → ¬ (IsDocument s.depth input value)
+    → IsNoText failure → (value : Value) → ¬ (IsDocument s.depth input value)
 front-none never s input failure held now plain h is value document =
     by failure is h.told
   where
     none : (h.head ≡ []) × (h.earlier ≡ [])
-    none = subst (λ b. IsBefore b s.depth h.head h.earlier) plain h.before
+    none = subst (λ b. IsBefore b s h.head h.earlier) plain h.before
 
     splits : input ≡ h.front ++ h.rest
     splits = h.splits ∙ ap (λ xs. xs ++ (h.front ++ h.rest)) none.0
@@ -115,11 +123,13 @@ front-none never s input failure held now plain h is value document =
       whole = subst (λ d. IsDocument d (h.front ++ h.rest) value) (sym h.limit) (subst (λ xs. IsDocument s.depth xs value) splits document);
     }
 
-    by : (failure : Failure) → IsOfText failure
-        → IsFailureOf input (length h.head) h.reader failure → ⊥
-    by (Faulty position fault excerpt) is (place, (stops, placed)) =
-        let next = next-of h.reader (error_of fault place) h.going stops in
-        no-refusal fault place (never h.reader next.0 h.front h.events value (error_of fault place) reads next.1)
+    by : (failure : Failure) → IsNoText failure
+        → IsFailureOf s.limit input (length h.head) h.reader failure → ⊥
+    by (Faulty position fault excerpt) is (place, (inl (e, (of_fault, stops)), placed)) =
+        let next = next-of h.reader e h.going stops in
+        no-refusal fault place e of_fault (never h.reader next.0 h.front h.events value e reads next.1)
+    by (Faulty position fault excerpt) is (place, (inr (long, there), placed)) =
+        subst (λ f. IsNoText (Faulty position f excerpt)) long is
     by (Stopped trouble) is told = is
 
 -- what a program that printed all has printed of a value
@@ -140,4 +150,4 @@ pub prints-none : FailsNever → (s : Settings) (r : Result (Unit {0}) Failure)
 prints-none never s (Ok done) had held now plain h = tt
 prints-none never s (Err failure) None held now plain h = tt
 prints-none never s (Err failure) (Some bytes) held now plain until =
-    λ is. front-none never s bytes failure held now plain (until is) is
+    λ is. front-none never s bytes failure held now plain (until (no-text failure is)) is

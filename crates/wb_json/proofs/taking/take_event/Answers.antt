@@ -7,7 +7,7 @@ returns-in-Ok-clause-taken g c =
     let read = rw c.in-Ok-Value.field-0-is at c.in-Ok-Value.ensures.read in
     let answer = rw c.in-Ok-Value.field-0-is at c.in-Ok-Value.ensures.answer in (
       answer c.requires,
-      prints-event c.args.layout c.args.reader.now c.next_event.new.self c.args.path.now c.write_event.new.path
+      prints-event c.args.settings.layout c.args.reader.now c.next_within.new.self c.args.path.now c.write_event.new.path
           (contents c.args.output.now) (contents c.write_event.new.output) c.in-Ok-Value.event read
           c.in-Ok.ensures.path c.in-Ok.ensures.wrote,
     )
@@ -17,8 +17,8 @@ returns-in-Ok-NeedsMore-clause-taken g c =
     let read = rw c.in-Ok-NeedsMore.field-0-is at c.in-Ok-NeedsMore.ensures.read in
     let answer = (rw c.in-Ok-NeedsMore.field-0-is at c.in-Ok-NeedsMore.ensures.answer) c.requires in (
       answer.1.1.0,
-      prints-none c.args.layout c.args.reader.now c.next_event.new.self c.args.path.now (g.W.Write.contents c.args.output.now) read,
-      waits-open answer.0 c.next_event.new.self answer.1.1.1 answer.1.1.2,
+      prints-none c.args.settings.layout c.args.reader.now c.next_within.new.self c.args.path.now (g.W.Write.contents c.args.output.now) read,
+      waits-open answer.0 c.next_within.new.self answer.1.1.1 answer.1.1.2,
     )
 
 pub returns-in-Ok-Done-clause-taken : goal.returns-in-Ok-Done-clause-taken
@@ -26,11 +26,11 @@ returns-in-Ok-Done-clause-taken g c =
     let read = rw c.in-Ok-Done.field-0-is at c.in-Ok-Done.ensures.read in
     let answer = (rw c.in-Ok-Done.field-0-is at c.in-Ok-Done.ensures.answer) c.requires in (
       answer.0,
-      prints-none c.args.layout c.args.reader.now c.next_event.new.self c.args.path.now (g.W.Write.contents c.args.output.now) read,
+      prints-none c.args.settings.layout c.args.reader.now c.next_within.new.self c.args.path.now (g.W.Write.contents c.args.output.now) read,
       answer.1,
     )
 
 pub returns-in-Err-clause-taken : goal.returns-in-Err-clause-taken
 returns-in-Err-clause-taken g c =
     let answer = (rw c.in-Err.error-is at c.in-Err.ensures.answer) c.requires in
-    taken-error c.args.layout c.args.reader.now c.next_event.new.self c.args.path.now (g.W.Write.contents c.args.output.now) c.in-Err.error c.stop_of.result answer c.stop_of.ensures
+    taken-error c.args.settings c.args.reader.now c.next_within.new.self c.args.path.now (g.W.Write.contents c.args.output.now) c.in-Err.error c.stop_of.result answer c.stop_of.ensures

@@ -1,4 +1,4 @@
-use Rattle.std.proofs.Common.{◌++◌, [], sym, subst, append-nil}
+use Rattle.std.proofs.Common.{◌++◌, sym, subst, append-nil}
 use Rattle.format_json_events.specs.Blanks.{HasTaken}
 use Rattle.format_json_events.specs.Turns.{state_of, at_begin}
 use Rattle.format_json_events.specs.Reading.{Takes, HasGiven}

@@ -2,7 +2,9 @@ use Rattle.std.proofs.Common.{◌≡◌, Some, [], inl, ap, sym, ◌∙◌, subs
 use Rattle.std.specs.Prelude.{Ok, OnOk}
 use Rattle.format_json_events.specs.Turns.{state_of, turn_at}
 use Rattle.format_json_events.specs.Reading.{GivesOn, KeepsLimits, IsComing, IsNoNext, StaysAt, Awaits, taken_events}
+use Rattle.format_json_events.specs.Lengths.{TakesStep}
 use Rattle.format_json.specs.declared.tokens.Token.TheVariants as token
+use Rattle.format_json_events.specs.declared.event_reader.Step.TheVariants as step
 use Rattle.format_json_events.specs.declared.turns.Turn.TheVariants.{Ends}
 use Rattle.format_json_events.proofs.lemmas.EventLemmas.{none-is, coming-ended, taken-depth, reader_of, step-took, step-refused, end-refused, step-ended, step-waits}
 use Rattle.format_json_events.proofs.event_reader.EventReader.step.Goals as goal
@@ -127,3 +129,21 @@ returns-in-Err-next_token-clause-keeps c =
     let middle = state_of c.make_room.new.self in
     let ended = coming-ended (state_of c.make_room.new.self) c.self.inside.tokens c.next_token.result f c.next_token.ensures in
     subst (λ o. KeepsLimits o (reader_of f middle c.self.inside.stopped)) c.self.view_is (ap (λ s. s.depth) c.make_room.ensures.same, ended)
+
+pub returns-in-Ok-clause-takes : goal.returns-in-Ok-clause-takes
+returns-in-Ok-clause-takes c =
+    let f = c.next_token.new.tokens in
+    let b = subst (λ r. IsComing (state_of c.make_room.new.self) c.self.inside.tokens r f) (c.in-Ok-Token.is ∙ ap Ok c.in-Ok-Token.field-0-is) c.next_token.ensures in
+    subst (λ o. TakesStep o.tokens (Ok (step.Took c.in-Ok.taken)) f) c.self.view_is (c.in-Ok-Token.token, b)
+
+pub returns-in-Ok-take_end-clause-takes : goal.returns-in-Ok-take_end-clause-takes
+returns-in-Ok-take_end-clause-takes c =
+    let f = c.next_token.new.tokens in
+    let b = subst (λ r. IsComing (state_of c.make_room.new.self) c.self.inside.tokens r f) (c.in-Ok-End.is ∙ ap Ok c.in-Ok-End.field-0-is) c.next_token.ensures in
+    subst (λ o. TakesStep o.tokens (Ok step.Done) f) c.self.view_is b
+
+pub returns-in-Ok-NeedsMore-clause-takes : goal.returns-in-Ok-NeedsMore-clause-takes
+returns-in-Ok-NeedsMore-clause-takes c =
+    let f = c.next_token.new.tokens in
+    let b = subst (λ r. IsComing (state_of c.make_room.new.self) c.self.inside.tokens r f) (c.in-Ok-NeedsMore.is ∙ ap Ok c.in-Ok-NeedsMore.field-0-is) c.next_token.ensures in
+    subst (λ o. TakesStep o.tokens (Ok step.NeedsMore) f) c.self.view_is (b.0, b.1)
