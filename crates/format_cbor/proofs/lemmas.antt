@@ -1,3 +1,5 @@
+pub mod EntryReading
 pub mod HeadReading
 pub mod ItemReading
+pub mod ItemWriting
 pub mod ScalarReading

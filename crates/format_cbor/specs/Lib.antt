@@ -3,5 +3,7 @@ pub mod Heads
 pub mod HeadLaws
 pub mod Scalars
 pub mod ScalarLaws
+pub mod Entries
+pub mod EntryLaws
 pub mod Items
 pub mod ItemLaws
