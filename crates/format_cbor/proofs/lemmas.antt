@@ -1,4 +1,5 @@
 pub mod EntryReading
+pub mod FloatLemmas
 pub mod HeadReading
 pub mod ItemReading
 pub mod ItemWriting

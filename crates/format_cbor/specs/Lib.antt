@@ -1,6 +1,7 @@
 pub mod Arguments
 pub mod Heads
 pub mod HeadLaws
+pub mod Floats
 pub mod Scalars
 pub mod ScalarLaws
 pub mod Entries

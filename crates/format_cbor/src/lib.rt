@@ -10,13 +10,14 @@
 //! Only the deterministic form is read, so a value has one spelling. A head is refused if its
 //! argument fits fewer bytes, if it begins an indefinite length (additional information 31), or if
 //! its additional information is reserved (28 to 30). A map is refused if its keys are not in
-//! order, or one is there twice. Of that form one rule is not checked: a float may have more bits
-//! than its value needs. No tag is interpreted.
+//! order, or one is there twice; and a float if fewer bits have its value, and a NaN if it is not
+//! `f9 7e 00`. No tag is interpreted.
 #![tactic(auto)]
 
 mod argument;
 mod entry;
 mod exchange;
+mod float;
 mod head;
 mod head_format;
 mod item;

@@ -66,7 +66,8 @@ module _ (inner : Spelling Item) where
 
     module _ (a b : Ahead ℕ) (n : ℕ) (es : List (Item × Item)) (to x : List ℕ) (fewer : length es < n) (spelled : Run [] es to x) (taken : Takes x a b) where
       -- where no entry follows fewer entries, no map is spelled
-      none-follows : (partial : Bool) → SpellsNone (SpellsEntry inner to) partial (bytes_of b.tokens)
+      none-follows : (partial : Bool)
+          → SpellsNone (SpellsEntry inner to) partial (bytes_of b.tokens)
           → SpellsNone (SpellsMap inner n) partial (bytes_of a.tokens)
       none-follows partial none v bytes more rest follows (e, each) whole =
           let start : x ++ (bytes_of b.tokens ++ more) ≡ bytes ++ rest =
