@@ -1,7 +1,10 @@
 pub mod Arguments
 pub mod Heads
 pub mod HeadLaws
+pub mod Floats
 pub mod Scalars
 pub mod ScalarLaws
+pub mod Entries
+pub mod EntryLaws
 pub mod Items
 pub mod ItemLaws

@@ -5,6 +5,7 @@ use Rattle.winnow_codec.specs.Bytes.{SpellsBytes}
 use Rattle.winnow_codec.specs.Cases.{SpellsTagged}
 use Rattle.winnow_codec.specs.Frames.{SpellsInside}
 use Rattle.format_cbor.specs.Heads.{SpellsHead}
+use Rattle.format_cbor.specs.Floats.{IsShortestHalf, IsShortestSingle, IsShortestDouble}
 use Rattle.format_cbor.specs.declared.head.Head.{Head}
 use Rattle.format_cbor.specs.declared.head.Kind.TheVariants as kind
 use Rattle.format_cbor.specs.declared.scalar.Scalar.{Scalar}
@@ -32,13 +33,15 @@ body_of (scalar.Text text) = string_bytes text
 body_of s = []
 
 -- the scalar has a spelling: a string has at most `longest` bytes, and a text is in UTF-8; a simple
--- value is none of the four that have names; and numbers have as many bits as their types
+-- value is none of the four that have names; a float has no shorter form; and numbers have as many
+-- bits as their types
 abbrev pub IsSpelled : ℕ → Scalar → Type 0
 IsSpelled longest (scalar.Bytes held) = length held.items ≤ longest
 IsSpelled longest (scalar.Text text) = (length (string_bytes text) ≤ longest) × IsUtf8 (string_bytes text)
 IsSpelled longest (scalar.Simple n) = (n < 256) × (20 ≤ n → 24 ≤ n)
-IsSpelled longest (scalar.Half bits) = bits < 2 ^ 16
-IsSpelled longest (scalar.Single bits) = bits < 2 ^ 32
+IsSpelled longest (scalar.Half bits) = (bits < 2 ^ 16) × IsShortestHalf bits
+IsSpelled longest (scalar.Single bits) = (bits < 2 ^ 32) × IsShortestSingle bits
+IsSpelled longest (scalar.Double bits) = IsShortestDouble bits
 IsSpelled longest s = ⊤
 
 -- which bytes after a head spell a scalar

@@ -6,9 +6,9 @@ ghost use Rattle.winnow_codec.specs.RoundTrips.{ReadsWhatItWrites, WritesWhatItR
 ghost use Rattle.winnow_codec.specs.Writing.{Writes};
 ghost use Rattle.format_cbor.specs.Heads.{SpellsHead};
 ghost use Rattle.format_cbor.specs.Scalars.{SpellsScalar, AreSameScalar};
-ghost use Rattle.format_cbor.specs.Items.{SpellsLayer, AreSameItem};
+ghost use Rattle.format_cbor.specs.Items.{SpellsItem, AreSame};
 
-use crate::{Item, Scalar, heads, layer, scalars};
+use crate::{Scalar, heads, items, scalars};
 use std::alloc::Global;
 use winnow_codec::{Format, Unwritten, round_trip_law};
 use winnow_error::ParserError;
@@ -32,12 +32,12 @@ pub fn scalar_law(longest: usize)
     round_trip_law(&scalars(longest));
 }
 
-/// The law of items over those inside them, as [`head_law`] is that of heads.
-pub fn item_law<F: Format<Value = Item> + Drop>(longest: usize, inner: F)
-    ensures read { ReadsWhatItWrites (AreSameItem F.same) (SpellsLayer longest (F.spells inner)) }
-    ensures written { WritesWhatItReads (SpellsLayer longest (F.spells inner)) }
+/// The law of items, as [`head_law`] is that of heads.
+pub fn item_law(longest: usize, depth: usize)
+    ensures read { ReadsWhatItWrites AreSame (SpellsItem longest depth) }
+    ensures written { WritesWhatItReads (SpellsItem longest depth) }
 {
-    round_trip_law(&layer(longest, inner));
+    round_trip_law(&items(longest, depth));
 }
 
 /// Reads a data item that holds no other, of which a string has at most `longest` bytes.

@@ -1,10 +1,11 @@
 //! A scalar as a value: `Scalar`.
 
 ghost use Rattle.std.specs.Prelude.{◌≡◌, ◌↔◌, IsTrue, ℕ, [], MatchOption};
-ghost use Rattle.format_cbor.specs.declared.head.Kind.TheVariants.{Simple};
+ghost use Rattle.format_cbor.specs.declared.head.Kind.TheVariants.{Simple, Half, Single, Double};
 ghost use Rattle.format_cbor.specs.Scalars.{head_of, body_of, IsSpelled, IsString};
 ghost use Rattle.format_cbor.specs.declared.scalar.Scalar.{Scalar};
 
+use crate::float::{is_shortest_double, is_shortest_half, is_shortest_single};
 use crate::{Head, Kind};
 
 /// A scalar: a data item that holds no other (section 3.1).
@@ -26,7 +27,8 @@ pub enum Scalar {
     Undefined,
     /// A simple value that has no name, by its number. Those from 20 to 31 have no spelling
     Simple(u8),
-    /// A float of 16 bits, by its bits
+    /// A float of 16 bits, by its bits. A float has a spelling if no fewer bits have its value
+    /// (section 4.2.1), and of the NaNs `Half(0x7e00)` alone has one
     Half(u16),
     /// A float of 32 bits, by its bits
     Single(u32),
@@ -88,14 +90,14 @@ pub(crate) fn is_spelled(longest: usize, scalar: &Scalar) -> bool
         Scalar::Bytes(held) => held.len() <= longest,
         Scalar::Text(text) => text.as_str().as_bytes().len() <= longest,
         Scalar::Simple(number) => *number < 20 || 24 <= *number,
-        Scalar::Half(bits) => u64::from(*bits) < 65536,
-        Scalar::Single(bits) => u64::from(*bits) < 4_294_967_296,
+        Scalar::Half(bits) => is_shortest_half(*bits),
+        Scalar::Single(bits) => is_shortest_single(*bits),
+        Scalar::Double(bits) => is_shortest_double(*bits),
         Scalar::Unsigned(_) => true,
         Scalar::Negative(_) => true,
         Scalar::Boolean(_) => true,
         Scalar::Null => true,
         Scalar::Undefined => true,
-        Scalar::Double(_) => true,
     }
 }
 
@@ -114,6 +116,51 @@ fn simple(number: u8) -> Scalar
     }
 }
 
+// Returns the float with these bits, if no shorter one has its value.
+fn half(bits: u16) -> Option<Scalar>
+    ensures { MatchOption result
+        ((longest : ℕ) (s : Scalar) → (head_of s).kind ≡ Half → (head_of s).argument ≡ bits
+        → IsSpelled longest s → IsString s)
+        (λ s. (head_of s ≡ record { kind = Half; argument = bits })
+        × ((longest : ℕ) → IsSpelled longest s) × (body_of s ≡ [])) }
+{
+    if is_shortest_half(bits) {
+        Some(Scalar::Half(bits))
+    } else {
+        None
+    }
+}
+
+// Returns the float with these bits, if no shorter one has its value.
+fn single(bits: u32) -> Option<Scalar>
+    ensures { MatchOption result
+        ((longest : ℕ) (s : Scalar) → (head_of s).kind ≡ Single → (head_of s).argument ≡ bits
+        → IsSpelled longest s → IsString s)
+        (λ s. (head_of s ≡ record { kind = Single; argument = bits })
+        × ((longest : ℕ) → IsSpelled longest s) × (body_of s ≡ [])) }
+{
+    if is_shortest_single(bits) {
+        Some(Scalar::Single(bits))
+    } else {
+        None
+    }
+}
+
+// Returns the float with these bits, if no shorter one has its value.
+fn double(bits: u64) -> Option<Scalar>
+    ensures { MatchOption result
+        ((longest : ℕ) (s : Scalar) → (head_of s).kind ≡ Double → (head_of s).argument ≡ bits
+        → IsSpelled longest s → IsString s)
+        (λ s. (head_of s ≡ record { kind = Double; argument = bits })
+        × ((longest : ℕ) → IsSpelled longest s) × (body_of s ≡ [])) }
+{
+    if is_shortest_double(bits) {
+        Some(Scalar::Double(bits))
+    } else {
+        None
+    }
+}
+
 // Returns the scalar with this head that is no string, if there is one.
 pub(crate) fn of_head(head: Head) -> Option<Scalar>
     ensures { MatchOption result
@@ -128,14 +175,14 @@ pub(crate) fn of_head(head: Head) -> Option<Scalar>
             Err(_) => None,
         },
         Kind::Half => match u16::try_from(head.argument) {
-            Ok(bits) => Some(Scalar::Half(bits)),
+            Ok(bits) => half(bits),
             Err(_) => None,
         },
         Kind::Single => match u32::try_from(head.argument) {
-            Ok(bits) => Some(Scalar::Single(bits)),
+            Ok(bits) => single(bits),
             Err(_) => None,
         },
-        Kind::Double => Some(Scalar::Double(head.argument)),
+        Kind::Double => double(head.argument),
         Kind::Bytes => None,
         Kind::Text => None,
         Kind::Array => None,

@@ -28,7 +28,7 @@ pub type ScalarFormat = Tagged<HeadFormat, ScalarAfter>;
 /// Returns the format of scalars, of which strings have at most `longest` bytes. A longer one is
 /// refused after its head, before any memory is asked for.
 ///
-/// A float is read with 16, 32 or 64 bits, whether or not fewer have its value.
+/// A float is read with the fewest bits that have its value, and a NaN in one form.
 ///
 /// ```
 /// assert_eq!(rt; text_of(alloc, &scalars(100), b"\x38\x63")?.as_str(), "Negative(99)");

@@ -1,19 +1,25 @@
 -- What readers and writers of items do, from what those of their parts do.
-use Rattle.std.proofs.Common.{◌≡◌, ℕ, Bool, List, length, Result, Ok, Err, ap, sym, ◌∙◌, subst, refl, arith, rules}
+use Rattle.std.proofs.Common.{◌≡◌, ℕ, suc, Bool, List, length, Result, Ok, Err, ap, sym, ◌∙◌, subst, refl, arith, rules}
 use Rattle.std.specs.Prelude.{Vec, Box, box_value}
 use Rattle.std.specs.declared.alloc.Global.{Global}
-use Rattle.winnow_parser.specs.Outcome.{Ahead, Failed, Gives, Fails}
-use Rattle.winnow_codec.specs.Formats.{Spelling, Reads}
-use Rattle.winnow_codec.specs.FormatRows.{SpellsPair}
+use Rattle.winnow_parser.specs.Outcome.{Ahead, Failed, Backtracks, Outcome, Gives, Fails}
+use Rattle.winnow_parser.specs.Parts.{Moves-still}
+use Rattle.winnow_codec.specs.Formats.{Spelling, Reads, IsFormat, IsEqual}
+use Rattle.winnow_codec.specs.FormatRows.{SpellsBoth}
+use Rattle.winnow_codec.specs.Cases.{with_tag}
 use Rattle.winnow_codec.specs.Lists.{SpellsItems}
 use Rattle.winnow_codec.specs.Writing.{Writes}
 use Rattle.winnow_codec.specs.declared.unwritten.Unwritten.{Unwritten}
 use Rattle.winnow_codec.specs.declared.unwritten.Unwritten.TheVariants.{Unspelled, Refused}
-use Rattle.winnow_codec.proofs.lemmas.Reading.{none-has}
-use Rattle.format_cbor.specs.Heads.{rank}
+use Rattle.winnow_codec.proofs.lemmas.Reading.{none-has, parts-unread, both-unbegun}
+use Rattle.winnow_codec.proofs.lemmas.Tags as tags
+use Rattle.format_cbor.specs.Heads.{rank, SpellsHead}
+use Rattle.format_cbor.specs.HeadLaws.{IsFormat-Head}
 use Rattle.format_cbor.specs.Scalars.{SpellsBody}
-use Rattle.format_cbor.specs.Items.{item_head, SpellsInner, SpellsContents}
-use Rattle.format_cbor.specs.ItemLaws.{scalar-place}
+use Rattle.format_cbor.specs.Entries.{SpellsMap}
+use Rattle.format_cbor.specs.Items.{item_head, SpellsInner, SpellsContents, SpellsLayer, SpellsWithin, SpellsItem, AreSameItem}
+use Rattle.format_cbor.specs.ItemLaws.{scalar-place, AreCases-Contents}
+use Rattle.format_cbor.proofs.lemmas.ItemWriting.{within-none}
 use Rattle.format_cbor.specs.declared.head.Head.{Head}
 use Rattle.format_cbor.specs.declared.head.Kind.TheVariants as kind
 use Rattle.format_cbor.specs.declared.scalar.Scalar.{Scalar}
@@ -58,7 +64,7 @@ module _ (longest : ℕ) (inner : Spelling Item) (head : Head) where
 
   map-only : head.kind ≡ kind.Map → (x : Item-F Item) (bytes : List ℕ) → head ≡ item_head x
       → SpellsInner longest inner x bytes
-      → (v : Vec (Item × Item) Global) × SpellsItems (SpellsPair inner inner) head.argument v bytes
+      → (v : Vec (Item × Item) Global) × SpellsMap inner head.argument v bytes
   map-only is (open_item.Scalar s) bytes h k = absurd ((scalar-place s).1 (sym (same-place (open_item.Scalar s) h) ∙ ap rank is))
   map-only is (open_item.Array vs) bytes h k = absurd (omega (arith, same-place (open_item.Array vs) h, ap rank is))
   map-only is (open_item.Map es) bytes h k = (es, (sym (ap (λ y. y.argument) h), k))
@@ -91,7 +97,7 @@ module _ (longest : ℕ) (inner : Spelling Item) (head : Head) where
 
     -- the keys and values of a map are read
     pub map-given : (v : Vec (Item × Item) Global) → head.kind ≡ kind.Map
-        → Reads (SpellsItems (SpellsPair inner inner) head.argument) partial a (Gives v b)
+        → Reads (SpellsMap inner head.argument) partial a (Gives v b)
         → Reads (SpellsContents longest inner head) partial a (Gives (item.Map v) b)
     map-given v is (bytes, ((counted, each), t)) =
         let number : head.argument ≡ length v.items = sym counted in
@@ -127,9 +133,9 @@ module _ (longest : ℕ) (inner : Spelling Item) (head : Head) where
 
     -- the keys and values of a map are not read
     pub map-unread : head.kind ≡ kind.Map
-        → Reads (SpellsItems (SpellsPair inner inner) head.argument) partial a (Fails f)
+        → Reads (SpellsMap inner head.argument) partial a (Fails f)
         → Reads (SpellsContents longest inner head) partial a (Fails f)
-    map-unread is h = none-has (SpellsItems (SpellsPair inner inner) head.argument) (SpellsContents longest inner head)
+    map-unread is h = none-has (SpellsMap inner head.argument) (SpellsContents longest inner head)
         (λ v bytes s. map-only is (out-Item v) bytes s.0 s.1) partial a f h
 
     -- the item that a tag tags is not read
@@ -159,3 +165,42 @@ layer-written longest inner v x is spells w to from old new (Ok done) (bytes, (s
 layer-written longest inner v x is spells w to from old new (Err Unspelled) h =
     (λ bytes s. h.0 bytes (from bytes (subst (λ y. SpellsInner longest inner y bytes) is s.1)), h.1)
 layer-written longest inner v x is spells w to from old new (Err (Refused r)) h = h
+
+-- ---- Items within others
+
+-- no item is read within fewer than 0 others
+pub within-unread : (longest depth : ℕ) → depth ≡ 0 → (partial : Bool) (a : Ahead ℕ)
+    → Reads (SpellsWithin longest depth) partial a (Fails (Backtracks a))
+within-unread longest depth e partial a = (
+  Moves-still a a refl,
+  λ v bytes more rest follows s whole. within-none longest depth e v bytes s,
+)
+
+-- an item within fewer than a number of others is one within at most one less
+pub within-read : (longest depth below : ℕ) → depth ≡ suc below → (partial : Bool) (a : Ahead ℕ)
+    (out : Outcome Item ℕ) → Reads (SpellsItem longest below) partial a out
+    → Reads (SpellsWithin longest depth) partial a out
+within-read longest depth below e partial a out h = subst (λ d. Reads (SpellsWithin longest d) partial a out) (sym e) h
+
+module _ (longest : ℕ) (same : Item → Item → Type 0) (inner : Spelling Item) (laws : IsFormat same inner) (partial : Bool) (a b : Ahead ℕ) where
+  -- the head of an item is not read
+  pub head-missed : (f : Failed ℕ) → Reads SpellsHead partial a (Fails f)
+      → Reads (SpellsLayer longest inner) partial a (Fails f)
+  head-missed f h =
+      parts-unread (with_tag (λ item. item_head (out-Item item))) (SpellsBoth SpellsHead (SpellsContents longest inner)) partial a f
+      (both-unbegun SpellsHead (SpellsContents longest inner) partial a f h)
+
+  -- the head of an item is read, and what follows it
+  pub item-read : (head : Head) (c : Ahead ℕ) (v : Item) → Reads SpellsHead partial a (Gives head b)
+      → Reads (SpellsContents longest inner head) partial b (Gives v c)
+      → Reads (SpellsLayer longest inner) partial a (Gives v c)
+  item-read head c v h k =
+      tags.tagged-given SpellsHead (λ item. item_head (out-Item item)) (SpellsContents longest inner) partial a b head (AreSameItem same)
+      (AreCases-Contents longest same inner laws) c v h k
+
+  -- the head of an item is read, and not what follows it
+  pub item-missed : (head : Head) (f : Failed ℕ) → Reads SpellsHead partial a (Gives head b)
+      → Reads (SpellsContents longest inner head) partial b (Fails f)
+      → Reads (SpellsLayer longest inner) partial a (Fails f)
+  item-missed head f h k =
+      tags.tagged-unfinished SpellsHead (λ item. item_head (out-Item item)) (SpellsContents longest inner) partial a b head IsEqual (λ t u e. e) IsFormat-Head.prefix_free f h k

@@ -2,9 +2,9 @@
 use Rattle.std.proofs.Common.{◌≡◌, ℕ, Bool, List, [], length, ap, sym, ◌∙◌, subst, refl, arith}
 use Rattle.std.specs.Prelude.{Vec, String, string_bytes, IsUtf8}
 use Rattle.std.specs.declared.alloc.Global.{Global}
-use Rattle.winnow_parser.specs.Outcome.{Ahead, Failed, Backtracks, Cuts, Needs, Refuses, Gives, Fails}
+use Rattle.winnow_parser.specs.Outcome.{Ahead, Failed, Backtracks, Gives, Fails}
 use Rattle.winnow_parser.specs.Parts.{Moves-still}
-use Rattle.winnow_codec.specs.Formats.{Spelling, Reads}
+use Rattle.winnow_codec.specs.Formats.{Reads}
 use Rattle.winnow_codec.specs.FormatTexts.{SpellsText}
 use Rattle.winnow_codec.specs.WholeFormats.{SpellsRest}
 use Rattle.winnow_codec.proofs.lemmas.Lists.{takes-none}
