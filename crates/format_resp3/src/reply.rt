@@ -27,7 +27,7 @@ pub enum Reply {
     BigNumber(Vec<u8>),
     /// The text of an error, of any bytes, with their number before them
     BulkError(Vec<u8>),
-    /// The format of a text in three bytes, as `txt` or `mkd`, and then the text
+    /// The format of a text, of three bytes as `txt`, and then the text
     Verbatim(Vec<u8>, Vec<u8>),
     /// A map: each key with its value, in the order of the bytes
     Map(Vec<(Reply, Reply)>),
