@@ -1,0 +1,4 @@
+pub mod Texts
+pub mod Replies
+pub mod ReplyLaws
+pub mod Exchange
