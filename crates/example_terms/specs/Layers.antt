@@ -7,7 +7,7 @@ use Rattle.winnow_codec.specs.Cases.{AreSameCase}
 use Rattle.winnow_codec.specs.Formats.{IsEqual}
 use Rattle.winnow_codec.specs.declared.choice.Choice.{Choice}
 use Rattle.winnow_codec.specs.declared.choice.Choice.TheVariants.{First, Other}
-use Rattle.winnow_codec_nested.specs.Nested.{CountsAlike}
+use Rattle.winnow_codec_nested.specs.Layered.{CountsAlike}
 use Rattle.example_terms.specs.declared.term.Term.{Term}
 use Rattle.example_terms.specs.declared.term.Term.TheOpen.{Term-F, Small, Integer, Tuple, Binary}
 use Rattle.example_terms.specs.declared.term.Term.TheViews.{out-Term}

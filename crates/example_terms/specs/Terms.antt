@@ -6,7 +6,7 @@ use Rattle.winnow_codec.specs.Bytes.{SpellsBytesAfter}
 use Rattle.winnow_codec.specs.Cases.{SpellsTagged, SpellsCase, SpellsLast, case_tag, only_tag}
 use Rattle.winnow_codec.specs.Formats.{Spelling}
 use Rattle.winnow_codec.specs.FormatNumbers.{SpellsNumber, big_endian, unsigned}
-use Rattle.winnow_codec_nested.specs.Nested.{SpellsNested, AreSameNested}
+use Rattle.winnow_codec_nested.specs.Layered.{SpellsNested, AreSameNested}
 use Rattle.example_terms.specs.Layers.{Head, head_of, held, count_after, AreSameHead}
 use Rattle.example_terms.specs.declared.term.Term.{Term}
 

@@ -150,7 +150,7 @@ pub use Rattle.winnow_codec.specs.WholeFormats
 pub use Rattle.winnow_codec.specs.Writing
 pub use Rattle.winnow_codec_mapped.specs.Mapped
 pub use Rattle.winnow_codec_mapped.specs.Floats
-pub use Rattle.winnow_codec_nested.specs.Nested
+pub use Rattle.winnow_codec_nested.specs.Layered
 pub use Rattle.winnow_reader_limit.specs.Bound
 pub use Rattle.winnow_reader_limit.specs.Limit
 pub use Rattle.winnow_reader_limit.specs.LimitTelling

@@ -1,1 +1,1 @@
-pub mod Nested
+pub mod Layered

@@ -2,8 +2,8 @@
 
 ghost use Rattle.std.specs.Prelude.{◌≡◌, ◌<◌, ℕ, List, IfOk, get_or, length};
 ghost use Rattle.winnow_codec.specs.Writing.{Writes};
-ghost use Rattle.winnow_codec_nested.specs.Nested.{SpellsNested, AreSameNested, CountsAlike};
-ghost use Rattle.winnow_codec_nested.specs.Nested.{IsFormat-Nested};
+ghost use Rattle.winnow_codec_nested.specs.Layered.{SpellsNested, AreSameNested, CountsAlike};
+ghost use Rattle.winnow_codec_nested.specs.Layered.{IsFormat-Nested};
 
 use crate::reading::read_value;
 use crate::writing::write_value;

@@ -4,7 +4,7 @@ ghost use Rattle.std.specs.Prelude.{◌≡◌};
 ghost use Rattle.winnow_parser.specs.Answer.{ahead, outcome};
 ghost use Rattle.winnow_codec.specs.Formats.{Reads};
 ghost use Rattle.winnow_codec.specs.Lists.{SpellsTimes};
-ghost use Rattle.winnow_codec_nested.specs.Nested.{SpellsNested, listed};
+ghost use Rattle.winnow_codec_nested.specs.Layered.{SpellsNested, listed};
 
 use crate::Layered;
 use std::alloc::Global;

@@ -2,7 +2,7 @@
 
 ghost use Rattle.winnow_codec.specs.Lists.{SpellsEach};
 ghost use Rattle.winnow_codec.specs.Writing.{Writes};
-ghost use Rattle.winnow_codec_nested.specs.Nested.{SpellsNested};
+ghost use Rattle.winnow_codec_nested.specs.Layered.{SpellsNested};
 
 use crate::Layered;
 use winnow_codec::{Format, Unwritten};

@@ -12,7 +12,7 @@ use Rattle.winnow_codec.specs.declared.unwritten.Unwritten.{Unwritten}
 use Rattle.winnow_codec.specs.declared.unwritten.Unwritten.TheVariants.{Unspelled, Refused}
 use Rattle.winnow_codec.proofs.lemmas.Lists.{takes-none}
 use Rattle.winnow_codec.proofs.lemmas.Reading.{takes-front, moves-both, both-given, both-unbegun, both-unfinished, parts-unread}
-use Rattle.winnow_codec_nested.specs.Nested.{layer_of, SpellsLayer, SpellsNested, CountsAlike, chooses}
+use Rattle.winnow_codec_nested.specs.Layered.{layer_of, SpellsLayer, SpellsNested, CountsAlike, chooses}
 
 -- ---- The values inside
 

@@ -5,7 +5,7 @@ use Rattle.winnow_codec.specs.Formats.{Reads}
 use Rattle.winnow_codec.specs.Lists.{SpellsEach, SpellsTimes}
 use Rattle.winnow_codec.proofs.lemmas.Reading.{takes-both}
 use Rattle.winnow_codec.proofs.lemmas.Lists.{takes-none, each-more}
-use Rattle.winnow_codec_nested.specs.Nested.{SpellsNested, AreSameNested, IsFormat-Nested}
+use Rattle.winnow_codec_nested.specs.Layered.{SpellsNested, AreSameNested, IsFormat-Nested}
 use Rattle.winnow_codec_nested.proofs.lemmas.Layers.{next-unread, layer-given, layer-unbegun, layer-unfinished, none-inside}
 use Rattle.winnow_codec_nested.proofs.reading.+reading.Goals as goal
 

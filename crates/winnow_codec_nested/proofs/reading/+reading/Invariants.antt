@@ -2,7 +2,7 @@ use Rattle.std.proofs.Common.{◌≡◌, ℕ, ◌+◌, ◌*◌, List, length}
 use Rattle.winnow_parser.specs.Answer.{ahead}
 use Rattle.winnow_codec.specs.Formats.{Takes}
 use Rattle.winnow_codec.specs.Lists.{SpellsEach}
-use Rattle.winnow_codec_nested.specs.Nested.{SpellsNested}
+use Rattle.winnow_codec_nested.specs.Layered.{SpellsNested}
 use Rattle.winnow_codec_nested.proofs.reading.+reading.Given as goal
 
 abbrev pub decreases-read_inners : goal.decreases-read_inners

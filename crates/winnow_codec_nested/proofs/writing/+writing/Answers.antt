@@ -3,7 +3,7 @@ use Rattle.std.proofs.lemmas.List.{take_more}
 use Rattle.winnow_codec.specs.Lists.{SpellsEach}
 use Rattle.winnow_codec.specs.Writing.{Writes}
 use Rattle.winnow_codec.proofs.lemmas.Lists.{each-more, items-unwritten}
-use Rattle.winnow_codec_nested.specs.Nested.{SpellsNested}
+use Rattle.winnow_codec_nested.specs.Layered.{SpellsNested}
 use Rattle.winnow_codec_nested.proofs.lemmas.Layers.{head-unwritten, layer-written, layer-unwritten}
 use Rattle.winnow_codec_nested.proofs.writing.+writing.Goals as goal
 

@@ -1,6 +1,6 @@
 use Rattle.std.proofs.Common.{◌≡◌, ℕ, ◌+◌, ◌*◌, List, ◌++◌, take, length}
 use Rattle.winnow_codec.specs.Lists.{SpellsEach}
-use Rattle.winnow_codec_nested.specs.Nested.{SpellsNested}
+use Rattle.winnow_codec_nested.specs.Layered.{SpellsNested}
 use Rattle.winnow_codec_nested.proofs.writing.+writing.Given as goal
 
 abbrev pub decreases-write_inners : goal.decreases-write_inners
