@@ -1,5 +1,6 @@
 pub mod PlacingLemmas
 pub mod PositionLemmas
+pub mod LineLemmas
 pub mod PrintingLemmas
 pub mod RawLemmas
 pub mod SessionLemmas

@@ -1,5 +1,6 @@
 pub mod Positions
 pub mod Failure
+pub mod Lines
 pub mod Printing
 pub mod Raw
 pub mod Layouts

@@ -4,7 +4,7 @@ use Rattle.std.specs.Fmt.{signed_decimal}
 use Rattle.format_resp.specs.declared.reply.Reply.{Reply}
 use Rattle.format_resp.specs.declared.reply.Reply.TheOpen.{Reply-F, Simple, Error, Integer, Bulk, NullBulk, Array, NullArray}
 use Rattle.format_resp.specs.declared.reply.Reply.TheFolds.{fold-Reply}
-use Rattle.wb_replies.specs.Printing.{line_of}
+use Rattle.wb_replies.specs.Lines.{line_of}
 
 -- what stands before the reply at this index of an array: a line feed, but for the first
 abbrev pub separator : ℕ → List ℕ

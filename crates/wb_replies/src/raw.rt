@@ -4,7 +4,7 @@ ghost use Rattle.std.specs.Prelude.{◌≡◌, ◌++◌, OnOk, OnErr};
 ghost use Rattle.std.specs.Fmt.{signed_decimal};
 ghost use Rattle.wb_replies.specs.Raw.{raw, separator};
 
-use crate::printing::append_line;
+use crate::lines::append_line;
 use format_resp::Reply;
 use itoa::Buffer;
 use std::alloc::AllocError;
@@ -44,24 +44,24 @@ fn append_text(reply: &Reply, text: &mut Vec<u8>) -> Result<(), AllocError>
     }
 }
 
-// Appends bytes.
-fn append_bytes(bytes: &[u8], text: &mut Vec<u8>) -> Result<(), AllocError>
+/// Appends bytes.
+pub fn append_bytes(bytes: &[u8], text: &mut Vec<u8>) -> Result<(), AllocError>
     ensures { OnOk result (text.new.items ≡ text.old.items ++ bytes.now) }
 {
     text.extend_from_slice(bytes)?;
     Ok(())
 }
 
-// Appends the digits of an integer.
-fn append_number(number: i64, text: &mut Vec<u8>) -> Result<(), AllocError>
+/// Appends the digits of an integer.
+pub fn append_number(number: i64, text: &mut Vec<u8>) -> Result<(), AllocError>
     ensures { OnOk result (text.new.items ≡ text.old.items ++ signed_decimal number) }
 {
     let mut digits = Buffer::new();
     append_bytes(digits.format(number).as_bytes(), text)
 }
 
-// Appends what stands before the reply at this index of an array.
-fn append_separator(index: usize, text: &mut Vec<u8>) -> Result<(), AllocError>
+/// Appends what stands before the text at this index of a list: a line feed, but for the first.
+pub fn append_separator(index: usize, text: &mut Vec<u8>) -> Result<(), AllocError>
     ensures { OnOk result (text.new.items ≡ text.old.items ++ separator index) }
 {
     if index == 0 {

@@ -202,8 +202,8 @@ fn ended_as(
     }
 }
 
-// Writes text, and flushes the output.
-fn write_out<W: Write>(text: &[u8], output: &mut W) -> Result<(), Trouble>
+/// Writes text, and flushes the output.
+pub fn write_out<W: Write>(text: &[u8], output: &mut W) -> Result<(), Trouble>
     ensures { OnOk result (Appends (W.contents output.old) (W.contents output.new) text.now) }
 {
     if let Err(error) = output.write_all(text) {

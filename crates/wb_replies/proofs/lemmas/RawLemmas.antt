@@ -16,7 +16,7 @@ pub raw-array : (y : Reply) (v : Vec Reply Global) → y ≡ kind.Array v
 raw-array y v e =
     ap raw (e ∙ sym (rolls-Array v)) ∙ fold-roll-Reply (List ℕ) layer_raw (Array v)
 
--- the texts of one reply more
+-- the texts with one more
 raw_entries-more : (i : ℕ) (xs : List (List ℕ)) (x : List ℕ)
     → raw_entries i (xs ++ x ∷ []) ≡ raw_entries i xs ++ separator (i + length xs) ++ x
 raw_entries-more i [] x =
@@ -29,14 +29,15 @@ raw_entries-more i (y ∷ ys) x =
     ∙ ap (λ t. t ++ x) (sym (append_assoc first (raw_entries (i + 1) ys) (separator (i + 1 + length ys))))
     ∙ ap (λ n. first ++ raw_entries (i + 1) ys ++ separator n ++ x) next
 
--- the texts of the replies up to the next index are those before, and the next
-pub raw_entries-next : (items : List Reply) (i : ℕ) (d : Reply) → i < length items
-    → raw_entries 0 (map raw (take (i + 1) items))
-    ≡ raw_entries 0 (map raw (take i items)) ++ separator i ++ raw (get_or items i d)
-raw_entries-next items i d h =
+-- the texts up to the next index are those before, and the next
+pub raw_entries-next : {T : Type 0} (text : T → List ℕ) (items : List T) (i : ℕ) (d : T)
+    → i < length items
+    → raw_entries 0 (map text (take (i + 1) items))
+    ≡ raw_entries 0 (map text (take i items)) ++ separator i ++ text (get_or items i d)
+raw_entries-next text items i d h =
     let le : i ≤ length items = omega (arith, h) in
-    let count : 0 + length (map raw (take i items)) ≡ i =
-    zero-add (length (map raw (take i items))) ∙ length-map (take i items) raw ∙ length-take-le i items le in
-    ap (raw_entries 0) (map_more raw items i d h)
-    ∙ raw_entries-more 0 (map raw (take i items)) (raw (get_or items i d))
-    ∙ ap (λ n. raw_entries 0 (map raw (take i items)) ++ separator n ++ raw (get_or items i d)) count
+    let count : 0 + length (map text (take i items)) ≡ i =
+    zero-add (length (map text (take i items))) ∙ length-map (take i items) text ∙ length-take-le i items le in
+    ap (raw_entries 0) (map_more text items i d h)
+    ∙ raw_entries-more 0 (map text (take i items)) (text (get_or items i d))
+    ∙ ap (λ n. raw_entries 0 (map text (take i items)) ++ separator n ++ text (get_or items i d)) count

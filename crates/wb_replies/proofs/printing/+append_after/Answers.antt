@@ -1,8 +1,10 @@
 use Rattle.std.proofs.Common.{◌≡◌, ◌+◌, ◌<◌, ◌++◌, length, map, take, ap, sym, ◌∙◌, subst, rules}
 use Rattle.std.specs.Prelude.{OnOk}
 use Rattle.std.proofs.lemmas.List.{take_all}
-use Rattle.wb_replies.specs.Printing.{shown, widened, entries, entry_start}
-use Rattle.wb_replies.proofs.lemmas.PrintingLemmas.{entries-next, appends-entry, shown-empty, shown-entries, no-length}
+use Rattle.wb_replies.specs.Lines.{widened, entries, entry_start}
+use Rattle.wb_replies.specs.Printing.{shown}
+use Rattle.wb_replies.proofs.lemmas.LineLemmas.{entries-next, appends-entry, no-length}
+use Rattle.wb_replies.proofs.lemmas.PrintingLemmas.{shown-empty, shown-entries}
 use Rattle.wb_replies.proofs.printing.+append_after.Goals as goal
 
 pub loop-index-preserved : goal.loop-index-preserved
@@ -14,12 +16,12 @@ loop-index-preserved t c =
     let width = c.digits_of-width.result in
     let base = c.args.text.now.items in
     let mid = c.append_entry_start.new.text.items in
-    let so_far = entries margin width 0 (map shown (take i items)) in
+    let so_far = entries 41 margin width 0 (map shown (take i items)) in
     let inner = c.deref-in-loop-index.ensures.value ∙ c.in_ok-inner-in-Array.ensures in
     let rest = c.in_ok-append_after-in-Array.ensures ∙ ap (λ m. mid ++ shown one m) inner
     ∙ ap (λ r. mid ++ shown r (widened margin (width + 2))) c.one-item.is in
-    appends-entry base so_far (entry_start margin width i) _ _ mid _ c.loop-index.invariant c.in_ok-append_entry_start-in-Array.ensures rest
-    ∙ ap (λ t. base ++ t) (sym (entries-next margin width items i one c.loop-index-test.true))
+    appends-entry base so_far (entry_start 41 margin width i) _ _ mid _ c.loop-index.invariant c.in_ok-append_entry_start-in-Array.ensures rest
+    ∙ ap (λ t. base ++ t) (sym (entries-next shown 41 margin width items i one c.loop-index-test.true))
 
 pub returns-after-loop-index : goal.returns-after-loop-index
 returns-after-loop-index t c =

@@ -1,7 +1,7 @@
 use Rattle.std.proofs.Common.{◌++◌, map, take, ap, sym, ◌∙◌}
 use Rattle.std.proofs.lemmas.List.{take_all}
 use Rattle.wb_replies.specs.Raw.{raw, raw_entries, separator}
-use Rattle.wb_replies.proofs.lemmas.PrintingLemmas.{appends-entry}
+use Rattle.wb_replies.proofs.lemmas.LineLemmas.{appends-entry}
 use Rattle.wb_replies.proofs.lemmas.RawLemmas.{raw_entries-next, raw-array}
 use Rattle.wb_replies.proofs.raw.+append_text.Goals as goal
 
@@ -15,7 +15,7 @@ loop-index-preserved t c =
     let so_far = raw_entries 0 (map raw (take i items)) in
     let rest = c.in_ok-append_text-in-Array.ensures ∙ ap (λ r. mid ++ raw r) c.one-item.is in
     appends-entry base so_far (separator i) _ _ mid _ c.loop-index.invariant c.in_ok-append_separator-in-Array.ensures rest
-    ∙ ap (λ t. base ++ t) (sym (raw_entries-next items i one c.loop-index-test.true))
+    ∙ ap (λ t. base ++ t) (sym (raw_entries-next raw items i one c.loop-index-test.true))
 
 pub returns-after-loop-index : goal.returns-after-loop-index
 returns-after-loop-index t c =

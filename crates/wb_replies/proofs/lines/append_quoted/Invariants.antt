@@ -1,7 +1,7 @@
 use Rattle.std.proofs.Common.{◌≡◌, ◌++◌, take}
 use Rattle.std.specs.List.{flat_map}
-use Rattle.wb_replies.specs.Printing.{escaped}
-use Rattle.wb_replies.proofs.printing.append_quoted.Given as goal
+use Rattle.wb_replies.specs.Lines.{escaped}
+use Rattle.wb_replies.proofs.lines.append_quoted.Given as goal
 
 -- the bytes so far are appended
 abbrev pub invariant-loop-byte : goal.invariant-loop-byte

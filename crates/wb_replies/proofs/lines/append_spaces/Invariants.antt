@@ -1,5 +1,5 @@
 use Rattle.std.proofs.Common.{◌≡◌, ◌++◌, replicate}
-use Rattle.wb_replies.proofs.printing.append_spaces.Given as goal
+use Rattle.wb_replies.proofs.lines.append_spaces.Given as goal
 
 -- the spaces so far are appended
 abbrev pub invariant-loop-turn : goal.invariant-loop-turn

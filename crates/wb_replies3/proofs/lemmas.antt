@@ -1,0 +1,2 @@
+pub mod PrintingLemmas
+pub mod RawLemmas
