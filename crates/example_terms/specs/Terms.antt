@@ -10,7 +10,7 @@ use Rattle.winnow_codec_nested.specs.Layered.{SpellsNested, AreSameNested}
 use Rattle.example_terms.specs.Layers.{Head, head_of, held, count_after, AreSameHead}
 use Rattle.example_terms.specs.declared.term.Term.{Term}
 
--- a number of so many bytes, the most significant first
+-- a number of this many bytes, the most significant first
 abbrev pub SpellsBig : ℕ → Spelling ℕ
 SpellsBig count = SpellsNumber big_endian count unsigned
 

@@ -62,7 +62,7 @@ fn read_string(
         read_chunk(longest, head, count, cursor, &mut bytes)?;
         return Ok(bytes);
     }
-    // No input has so many chunks that the turns are used up.
+    // There are more turns than an input can have chunks.
     for _ in 0..u64::MAX {
         if cursor.takes_break() {
             return Ok(bytes);

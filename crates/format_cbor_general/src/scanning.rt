@@ -54,7 +54,7 @@ impl Scan {
     /// [`read_item`](crate::read_item) can read it or say what is wrong without more of them. At
     /// each call the bytes are those of the call before it, and may have more after them.
     pub fn is_ready(&mut self, bytes: &[u8]) -> Result<bool, AllocError> {
-        // No input has so many heads that the turns are used up.
+        // There are more turns than an input can have heads.
         for _ in 0..u64::MAX {
             match self.step(bytes)? {
                 Found::More => {}

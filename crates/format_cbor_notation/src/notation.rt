@@ -9,7 +9,7 @@ use itoa::Buffer;
 use std::alloc::AllocError;
 
 /// Appends the notation of an item (section 8), or a front of it if memory is refused. It is on one
-/// line, whatever the item. Calls are nested as deep as the items.
+/// line, for any item. Calls are nested as deep as the items.
 #[cycle(notation)]
 pub fn append_item(item: &Item, text: &mut Vec<u8>) -> Result<(), AllocError> {
     match item {

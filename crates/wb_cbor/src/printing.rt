@@ -1,4 +1,4 @@
-//! `Printing`: the items of the pieces of an input, as they are printed.
+//! `Printing`: reads items from the pieces of an input, and prints them.
 
 use crate::failure::{Failure, Fault};
 use crate::settings::Settings;
@@ -39,7 +39,7 @@ impl Printing {
     // Prints the items that are whole, and says what is wrong with one that is not.
     fn print_ready<W: Write>(&mut self, alloc: Global, output: &mut W) -> Result<(), Failure> {
         let mut start = 0;
-        // No input has so many items that the turns are used up.
+        // There are more turns than an input can have items.
         for _ in 0..u64::MAX {
             let rest = self.kept.get(start..).unwrap_or(&[]);
             if !self.scan.is_ready(rest)? {
